@@ -1,0 +1,8 @@
+-- The notions of the algebra of whole numbers, one subject a file.
+pub mod Ops
+pub mod Expr
+pub mod Normal
+pub mod Bound
+pub mod Sign
+pub mod Within
+pub mod Samples
