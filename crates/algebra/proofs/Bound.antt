@@ -1,6 +1,7 @@
 -- Sizes of expressions by computing.
 --   size-by ρ bs h e B tt        : e is at most B in size, from the bounds bs, as it is written
 --   size-by-normal ρ bs h e B tt : the same, from its normal form
+--   each-by, each-by-normal      : the same of all expressions of a list
 -- Assumes nothing.
 use mathlib.Core.Path.{_≡_, sym, subst}
 use mathlib.Core.Bool.{_&&_}
@@ -11,10 +12,13 @@ use lib.Dec.{T, leb, leb→le}
 use lib.IntN.{ℤ, negℤ, natAbs, _+ℤ_, _*ℤ_}
 use Rattle.algebra.specs.Expr.{Expr, var, con, _⊕_, _⊖_, _⊗_, neg, look, eval}
 use Rattle.algebra.specs.Normal.{Poly, nil, term, normal, power, valueM, valueP, small}
-use Rattle.algebra.specs.Bound.{Bounded, look-bound, bound, boundM, boundP, bound-normal}
+use Rattle.algebra.specs.Sign.{evals}
+use Rattle.algebra.specs.Within.{Each}
+use Rattle.algebra.specs.Bound.{Bounded, look-bound, bound, boundM, boundP, bound-normal, all-within, all-within-normal}
 use Rattle.algebra.proofs.Truth.{T-and}
 use Rattle.algebra.proofs.Size.{size-neg, size-+, size-*}
 use Rattle.algebra.proofs.Solve.{small-is}
+use Rattle.algebra.proofs.Within.{each-nil, each-cons}
 
 sum-size : (x y : ℤ) {m n : ℕ} → natAbs x ≤ m → natAbs y ≤ n → natAbs (x +ℤ y) ≤ m + n
 sum-size x y h k = N.le-trans (size-+ x y) (N.add-le-add h k)
@@ -72,3 +76,19 @@ size-by-normal ρ bs h e B t =
     let (d, l) = T-and (small e) (leb (bound-normal bs e) B) t in
     subst (λ z. natAbs z ≤ B) (small-is ρ e d)
     (N.le-trans (boundP-is ρ bs h (normal e)) (leb→le (bound-normal bs e) B l))
+
+-- ---- lists of expressions
+pub each-by : (ρ : List ℤ) (bs : List ℕ) → Bounded ρ bs → (B : ℕ) (es : List Expr) → T (all-within bs B es) → Each B (evals ρ es)
+each-by ρ bs h B [] t = each-nil
+each-by ρ bs h B (e ∷ es) t =
+    let (u, v) = T-and (leb (bound bs e) B) (all-within bs B es) t in
+    each-cons (record { size = size-by ρ bs h e B u }) (each-by ρ bs h B es v)
+
+pub each-by-normal : (ρ : List ℤ) (bs : List ℕ) → Bounded ρ bs
+    → (B : ℕ) (es : List Expr)
+    → T (all-within-normal bs B es)
+    → Each B (evals ρ es)
+each-by-normal ρ bs h B [] t = each-nil
+each-by-normal ρ bs h B (e ∷ es) t =
+    let (u, v) = T-and (small e && leb (bound-normal bs e) B) (all-within-normal bs B es) t in
+    each-cons (record { size = size-by-normal ρ bs h e B u }) (each-by-normal ρ bs h B es v)

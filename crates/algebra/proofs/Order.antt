@@ -7,7 +7,7 @@
 --   0≤-nat, nat-0≤, 0<-nat, nat-0<, 0≤+, 0≤*, 0<+≤, 0≤+<, 0<*, 0≤square   : signs
 --   0≤-sub, sub-0≤, 0<-sub, sub-0< : by the difference
 --   *ℤ-mono, *ℤ-mono-<             : products by what is not negative
---   +ℤ-cancel-≤, *ℤ-cancel-≤, *ℤ-cancel-<, *ℤ-cancel, positive-factor : cancelling
+--   +ℤ-cancel-≤, *ℤ-cancel-≤, *ℤ-cancel-<, *ℤ-cancel, positive-factor, positive-transfer, nonpositive-transfer : cancelling
 -- Assumes nothing.
 use mathlib.Core.Path.{_≡_, refl, sym, _∙_, ap, ap₂, subst}
 use mathlib.Core.Bool.{Bool, true, false, not}
@@ -238,3 +238,14 @@ pub *ℤ-cancel : (a b k : ℤ) → pos 0 <ℤ k → a *ℤ k ≡ b *ℤ k → a
 pub positive-factor : (n : ℕ) (z : ℤ) → pos 0 <ℤ (pos n *ℤ z) → pos 0 <ℤ z
 positive-factor n z h =
     *ℤ-cancel-< (pos 0) z (pos n) (0≤pos n) (rw (zero-*ℤ (pos n)) (rw (*ℤ-comm (pos n) z) at h))
+
+-- two multiples that are equal have one sign
+pub positive-transfer : (a b : ℕ) (x y : ℤ) → 0 < a → pos a *ℤ x ≡ pos b *ℤ y → pos 0 <ℤ x → pos 0 <ℤ y
+positive-transfer a b x y p e h = positive-factor b y (rw e at (0<* (0<pos p) h))
+
+pub nonpositive-transfer : (a b : ℕ) (x y : ℤ) → 0 < b → pos a *ℤ x ≡ pos b *ℤ y → x ≤ℤ pos 0 → y ≤ℤ pos 0
+nonpositive-transfer a b x y p e h = go (<-cases (pos 0) y)
+  where
+    go : (pos 0 <ℤ y) ⊎ (y ≤ℤ pos 0) → y ≤ℤ pos 0
+    go (inl l) = clashℤ (positive-transfer b a y x p (sym e) l) h
+    go (inr l) = l

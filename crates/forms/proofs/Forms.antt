@@ -17,7 +17,7 @@ use lib.ListN.{getD, length}
 use lib.Signed.{_≤ℤ_, _<ℤ_}
 use Rattle.algebra.proofs.Ring.{*ℤ-assoc, 1-*ℤ}
 use Rattle.forms.specs.Rows.{Row, _⊙_, mix, weigh}
-use Rattle.forms.specs.Forms.{Form, slot, value, through, restrict, pick, times, power, NonNeg, Touch, Picks}
+use Rattle.forms.specs.Forms.{Form, slot, value, through, restrict, pick, times, power, NonNeg, Along, Touch, Picks}
 use Rattle.forms.specs.Cells.{Inside}
 use Rattle.forms.specs.Shapes.{onto, spread}
 use Rattle.forms.proofs.Rows.{weigh-⊙, weigh-mix, weigh-ext, weigh-*, weigh-swap, weigh-nonneg, weigh-positive}
@@ -113,34 +113,23 @@ spread-times [] x ys = refl
 spread-times (n ∷ ns) x [] = refl
 spread-times (n ∷ ns) x (y ∷ ys) = times-onto n x y (spread ns ys) ∙ ap (onto n (x ⊙ y)) (spread-times ns x ys)
 
-touch-onto : (n : ℕ) (w : Row) (k : ℕ) (ws : List Row) (ks : List ℕ) → 0 < getD w k 0
-    → Touch ws ks
-    → Touch (onto n w ws) (onto n k ks)
-touch-onto zero w k ws ks h t = t
-touch-onto (suc n) w k ws ks h t = (h, touch-onto n w k ws ks h t)
+module _ {A B : Type 0} (R : A → B → Type 0) where
+  along-onto : (n : ℕ) (a : A) (b : B) (l : List A) (m : List B) → R a b → Along R l m → Along R (onto n a l) (onto n b m)
+  along-onto zero a b l m h t = t
+  along-onto (suc n) a b l m h t = (h, along-onto n a b l m h t)
+
+  pub spread-along : (ns : List ℕ) (l : List A) (m : List B) → Along R l m → Along R (spread ns l) (spread ns m)
+  spread-along [] l m t = tt
+  spread-along (n ∷ ns) [] [] t = tt
+  spread-along (n ∷ ns) [] (b ∷ m) t = absurd t
+  spread-along (n ∷ ns) (a ∷ l) [] t = absurd t
+  spread-along (n ∷ ns) (a ∷ l) (b ∷ m) t = along-onto n a b (spread ns l) (spread ns m) (t .0) (spread-along ns l m (t .1))
 
 pub spread-touch : (ns : List ℕ) (ws : List Row) (ks : List ℕ) → Touch ws ks → Touch (spread ns ws) (spread ns ks)
-spread-touch [] ws ks t = tt
-spread-touch (n ∷ ns) [] [] t = tt
-spread-touch (n ∷ ns) [] (k ∷ ks) t = absurd t
-spread-touch (n ∷ ns) (w ∷ ws) [] t = absurd t
-spread-touch (n ∷ ns) (w ∷ ws) (k ∷ ks) t =
-    touch-onto n w k (spread ns ws) (spread ns ks) (t .0) (spread-touch ns ws ks (t .1))
-
-picks-onto : (n : ℕ) (w : Row) (k : ℕ) (ws : List Row) (ks : List ℕ)
-    → ((f : ℕ → ℤ) → weigh w f ≡ f k)
-    → Picks ws ks
-    → Picks (onto n w ws) (onto n k ks)
-picks-onto zero w k ws ks h t = t
-picks-onto (suc n) w k ws ks h t = (h, picks-onto n w k ws ks h t)
+spread-touch = spread-along (λ w k. 0 < getD w k 0)
 
 pub spread-picks : (ns : List ℕ) (ws : List Row) (ks : List ℕ) → Picks ws ks → Picks (spread ns ws) (spread ns ks)
-spread-picks [] ws ks t = tt
-spread-picks (n ∷ ns) [] [] t = tt
-spread-picks (n ∷ ns) [] (k ∷ ks) t = absurd t
-spread-picks (n ∷ ns) (w ∷ ws) [] t = absurd t
-spread-picks (n ∷ ns) (w ∷ ws) (k ∷ ks) t =
-    picks-onto n w k (spread ns ws) (spread ns ks) (t .0) (spread-picks ns ws ks (t .1))
+spread-picks = spread-along (λ w k. (f : ℕ → ℤ) → weigh w f ≡ f k)
 
 module _ {ℓ κ} {A : Type ℓ} {B : Type κ} (f : A → B) where
   map-onto : (n : ℕ) (a : A) (l : List A) → map f (onto n a l) ≡ onto n (f a) (map f l)

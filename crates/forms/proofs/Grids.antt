@@ -1,5 +1,5 @@
 -- The cells of a level and the grid.
---   inWhole-sized, inWhole-adds : a cell's point is a point of the element, its totals times 2^d
+--   inWhole-sized, inWhole-adds, inWhole-heavy : a cell's point is a point of the element, its totals times 2^d
 --   value-cell       : the value of a cell of level d is the value of the element, at the same point
 --   corner-value     : a corner value of a cell is the value of the element at that corner
 --   grid-corner, corner-grid : the grid points of level d are exactly the corners of the cells of level d
@@ -18,7 +18,7 @@ use Rattle.algebra.specs.Within.{Each}
 use Rattle.forms.specs.Rows.{Row, total}
 use Rattle.forms.specs.Forms.{through, times}
 use Rattle.forms.specs.Cuttings.{Four}
-use Rattle.forms.specs.Shapes.{Shape, cutTo, scaled, tip, cornerValue, entry, Sized, Adds, Point, sides, Lawful}
+use Rattle.forms.specs.Shapes.{Shape, cutTo, scaled, tip, cornerValue, entry, Sized, Adds, Heavy, Point, sides, Lawful}
 use Rattle.forms.specs.Grids.{cellAt, inWhole, OnGrid, gridPoint}
 use Rattle.forms.proofs.Rows.{getD-⊙}
 use Rattle.forms.proofs.Shapes.{double, times-sized, times-adds, sides-heavy, through-sized, through-adds, scaled-cut, scaled-tip, tip-of, tip-sized, tip-adds, cutTo-size}
@@ -44,6 +44,13 @@ entry-times x at ws = go (at .0) ws
     go zero (w ∷ ws) = getD-⊙ x w (at .1)
     go (suc d) (w ∷ ws) = go d ws
 
+heavy-times : (n : ℕ) → 0 < n → (ys ws : List Row) → map total ws ≡ map (λ h. n * h) (map total ys) → Heavy ys → Heavy ws
+heavy-times n p [] [] e h = tt
+heavy-times n p [] (w ∷ ws) e h = absurd (N.suc-ne-zero _ (ap length e))
+heavy-times n p (y ∷ ys) [] e h = absurd (N.suc-ne-zero _ (ap length (sym e)))
+heavy-times n p (y ∷ ys) (w ∷ ws) e h =
+    let t : total w ≡ n * total y = cc in (rw t (N.mul-pos p (h .0)), heavy-times n p ys ws (cc) (h .1))
+
 module _ (S : Shape) (W : Lawful S) where
   -- ---- a cell's points
   pub inWhole-sized : (path : List Four) (ys : List Row) → Sized (S .sizes) ys → Sized (S .sizes) (inWhole S path ys)
@@ -65,6 +72,9 @@ module _ (S : Shape) (W : Lawful S) where
     where
       twice : (n h : ℕ) → 2 * (n * h) ≡ 2 * n * h
       twice n h = sym (N.mul-assoc 2 n h)
+
+  pub inWhole-heavy : (path : List Four) (ys : List Row) → Sized (S .sizes) ys → Heavy ys → Heavy (inWhole S path ys)
+  inWhole-heavy path ys e h = heavy-times (2 ^ length path) (pow-pos (length path)) ys (inWhole S path ys) (inWhole-adds path ys e) h
 
   pub value-cell : (path : List Four) (c : List ℤ) (ys : List Row) → Sized (S .sizes) ys
       → scaled S (cellAt S path c) ys ≡ scaled S c (inWhole S path ys)

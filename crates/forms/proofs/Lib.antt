@@ -5,6 +5,7 @@ pub mod Cells
 pub mod Cuttings
 pub mod Shapes
 pub mod Grids
+pub mod Between
 pub mod Triangles
 pub mod Quads
 pub mod Polar

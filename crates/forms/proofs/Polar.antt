@@ -20,7 +20,7 @@ use Rattle.forms.specs.Cells.{dot, coeffs, same}
 use Rattle.forms.specs.Shapes.{Shape, spread, scaled, Heavy, Point}
 use Rattle.forms.specs.Triangles.{six}
 use Rattle.forms.specs.Quads.{quad}
-use Rattle.forms.specs.Polar.{probes, gather, orders, heavy, arePoints, readings, readsOne, readsFrom, readable}
+use Rattle.forms.specs.Polar.{Weighted, Both, probes, orders, heavy, arePoints, readings, readsOne, readsFrom, readable}
 use Rattle.forms.proofs.Rows.{weigh-⊕, weigh-⊙, weigh-unit}
 use Rattle.forms.proofs.Cells.{same-eq, value-stored}
 
@@ -38,15 +38,17 @@ module _ (S : Shape) (a b : List ℤ) (agree : (ws : List Row) → Point S ws �
       ∙ agree ws (record { sized = same-eq (map length ws) (S .sizes) u; heavy = heavy-is ws v })
       ∙ value-stored (spread (S .counts) ws) (S .place) b
 
-  readings-agree : (l : List (List Row)) → T (arePoints (S .sizes) l) → dot (readings S l) a ≡ dot (readings S l) b
+  readings-agree : (l : List (Weighted (List Row))) → T (arePoints (S .sizes) l) → dot (readings S l) a ≡ dot (readings S l) b
   unfolding weigh
   readings-agree [] t = refl
-  readings-agree (ws ∷ l) t =
+  readings-agree ((w, ws) ∷ l) t =
       let (u, v) = T-and (same (map length ws) (S .sizes) && heavy ws) (arePoints (S .sizes) l) t in
       let r : Row = coeffs (spread (S .counts) ws) (S .place) in
-      weigh-⊕ r (readings S l) (λ i. getD a i (pos 0))
-      ∙ ap₂ _+ℤ_ (probe-agrees ws u) (readings-agree l v)
-      ∙ sym (weigh-⊕ r (readings S l) (λ i. getD b i (pos 0)))
+      weigh-⊕ (w ⊙ r) (readings S l) (λ i. getD a i (pos 0))
+      ∙ ap₂ _+ℤ_
+      (weigh-⊙ w r (λ i. getD a i (pos 0)) ∙ ap (λ z. pos w *ℤ z) (probe-agrees ws u) ∙ sym (weigh-⊙ w r (λ i. getD b i (pos 0))))
+      (readings-agree l v)
+      ∙ sym (weigh-⊕ (w ⊙ r) (readings S l) (λ i. getD b i (pos 0)))
 
   -- m·aₖ and the odd readings are the even readings, and the same for b
   one-reading : (m k : ℕ) (r : Row) (c : List ℤ) → dot (m ⊙ unit k ⊕ r) c ≡ pos m *ℤ getD c k (pos 0) +ℤ dot r c
@@ -54,13 +56,13 @@ module _ (S : Shape) (a b : List ℤ) (agree : (ws : List Row) → Point S ws �
       weigh-⊕ (m ⊙ unit k) r (λ i. getD c i (pos 0))
       ∙ ap (λ z. z +ℤ dot r c) (weigh-⊙ m (unit k) (λ i. getD c i (pos 0)) ∙ ap (λ z. pos m *ℤ z) (weigh-unit k (λ i. getD c i (pos 0))))
 
-  reads-one : 0 < orders (S .counts) → (k : ℕ) (ks : List ℕ) → T (readsOne S k ks) → getD a k (pos 0) ≡ getD b k (pos 0)
-  reads-one p k ks t = go (probes (S .counts) (S .sizes) ks) t
+  reads-one : 0 < orders (S .counts) → (k : ℕ) (ds : List Row) → T (readsOne S k ds) → getD a k (pos 0) ≡ getD b k (pos 0)
+  reads-one p k ds t = go (probes ds) t
     where
       m : ℕ
       m = orders (S .counts)
 
-      go : (eo : List (List Row) × List (List Row))
+      go : (eo : Both (List Row))
           → T ((arePoints (S .sizes) (eo .0) && arePoints (S .sizes) (eo .1)) && same (readings S (eo .0)) (orders (S .counts) ⊙ unit k ⊕ readings S (eo .1)))
           → getD a k (pos 0) ≡ getD b k (pos 0)
       go (even, odd) t =
@@ -77,16 +79,16 @@ module _ (S : Shape) (a b : List ℤ) (agree : (ws : List Row) → Point S ws �
           ∙ *ℤ-comm (pos m) (getD b k (pos 0)))
 
   reads-from : 0 < orders (S .counts)
-      → (k : ℕ) (l : List (List ℕ))
+      → (k : ℕ) (l : List (List Row))
       → T (readsFrom S k l)
       → (i : ℕ)
       → i < length l
       → getD a (k + i) (pos 0) ≡ getD b (k + i) (pos 0)
   reads-from p k [] t i h = absurd (N.not-suc-le-zero h)
-  reads-from p k (ks ∷ l) t zero h = rw (N.add-zero k) (reads-one p k ks (T-and (readsOne S k ks) (readsFrom S (suc k) l) t .0))
-  reads-from p k (ks ∷ l) t (suc i) h =
+  reads-from p k (ds ∷ l) t zero h = rw (N.add-zero k) (reads-one p k ds (T-and (readsOne S k ds) (readsFrom S (suc k) l) t .0))
+  reads-from p k (ds ∷ l) t (suc i) h =
       let e : k + suc i ≡ suc k + i = omega arith in
-      rw e (reads-from p (suc k) l (T-and (readsOne S k ks) (readsFrom S (suc k) l) t .1) i (N.le-of-suc-le-suc h))
+      rw e (reads-from p (suc k) l (T-and (readsOne S k ds) (readsFrom S (suc k) l) t .1) i (N.le-of-suc-le-suc h))
 
   pub stored-only : T (readable S) → length a ≡ length (S .entries) → length b ≡ length (S .entries) → a ≡ b
   stored-only t la lb =

@@ -98,6 +98,7 @@ quad-lawful =
       tabled = tt;
       grown = tt;
       inherited = tt;
+      kept = tt;
       doubled = tt;
       cornered = tt;
       corners-inside = tt;

@@ -9,7 +9,7 @@ use mathlib.Core.List.{List, [], _∷_, map}
 use Prim.Native.Nat.{ℕ, zero, suc, _+_, _*_, _-_, _^_, _≤_, _<_}
 use native.Mathlib.Omega.{arith}
 use native.Mathlib.Decide.{decLe}
-use lib.Dec.{T}
+use lib.Dec.{T, ltb}
 use lib.IntN.{ℤ, pos, _+ℤ_, _*ℤ_}
 use lib.ListN.{length}
 use Rattle.algebra.specs.Expr.{Expr, var, con, _⊕_, _⊖_, _⊗_, eval}
@@ -17,10 +17,10 @@ use Rattle.algebra.specs.Normal.{vanishes}
 use Rattle.algebra.proofs.Solve.{solve}
 use Rattle.forms.specs.Rows.{Row, total, weigh}
 use Rattle.forms.specs.Forms.{through}
-use Rattle.forms.specs.Cells.{dot, quarter, Tabled, heirs, rowsAdd}
+use Rattle.forms.specs.Cells.{dot, quarter, every, Tabled, heirs, rowsAdd}
 use Rattle.forms.specs.Cuttings.{Four, inFour, first, second, third, fourth}
 use Rattle.forms.specs.Shapes.{Shape, spread, entry, Sized, Adds, tips, Lawful}
-use Rattle.forms.specs.Triangles.{cuts, triangle, entries6, place6, six}
+use Rattle.forms.specs.Triangles.{cuts, triangle, degrees6, place6, six}
 use Rattle.forms.proofs.Shapes.{double}
 
 abbrev row : ℕ → ℕ → ℕ → List Row
@@ -70,9 +70,9 @@ split-rows hs ws e a =
     let (h, s, t) = one-total (total (x ∷ y ∷ z ∷ [])) hs (ap (map total) (sym r) ∙ a) in
     subst₂ Split (sym s) (sym r) (split3 h x y z (omega arith))
 
-module _ (n : ℕ) (entries : List (List ℕ)) (place : List ℕ → ℕ) where
+module _ (n : ℕ) (degrees : List Row) (place : List ℕ → ℕ) where
   abbrev S : Shape
-  S = triangle n entries place
+  S = triangle n degrees place
 
   abbrev Indexed : ℕ → List Row → Type 0
   Indexed m ws = (entry (0, 2) ws ≤ m) × (entry (0, 1) ws ≤ m - entry (0, 2) ws) × (S .rows m (entry (0, 1) ws) (entry (0, 2) ws) ≡ ws)
@@ -85,12 +85,14 @@ module _ (n : ℕ) (entries : List (List ℕ)) (place : List ℕ → ℕ) where
   pub triangle-lawful : T (inFour (λ i. Tabled (spread (n ∷ []) (3 ∷ [])) place (spread (n ∷ []) (cuts i)) (S .table i)))
       → T (inFour (λ i. rowsAdd (2 ^ n) (S .table i)))
       → T (inFour (λ i. heirs (tips S) (tips S) (S .table i)))
+      → T (every (spread (n ∷ []) (3 ∷ [])) (λ ks. ltb (place ks) (length (S .entries))))
       → Lawful S
-  triangle-lawful tabled grown inherited =
+  triangle-lawful tabled grown inherited kept =
       record {
         tabled = tabled;
         grown = grown;
         inherited = inherited;
+        kept = kept;
         doubled = tt;
         cornered = tt;
         corners-inside = tt;
@@ -102,7 +104,7 @@ module _ (n : ℕ) (entries : List (List ℕ)) (place : List ℕ → ℕ) where
 
 -- ---- the quadratic triangle
 pub six-lawful : Lawful six
-six-lawful = triangle-lawful 2 entries6 place6 tt tt tt
+six-lawful = triangle-lawful 2 degrees6 place6 tt tt tt tt
 
 -- "4c00, c00+2c01+c11, c00+2c02+c22, 2(c00+c01), c00+c01+c02+c12, 2(c00+c02)"
 pub quarter-at-V0 : (c00 c11 c22 c01 c12 c02 : ℤ)

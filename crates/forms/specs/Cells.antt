@@ -19,7 +19,7 @@ use lib.IntN.{ℤ, pos}
 use lib.ListN.{getD}
 use lib.Signed.{leZ, ltZ}
 use Rattle.forms.specs.Rows.{Row, mix, total, weigh, unit}
-use Rattle.forms.specs.Forms.{Form, pick}
+use Rattle.forms.specs.Forms.{Form, pick, Along}
 
 abbrev pub stored : (List ℕ → ℕ) → List ℤ → Form
 stored p c ks = getD c (p ks) (pos 0)
@@ -48,10 +48,7 @@ passes tips c = positives tips c && nonNegatives c
 
 -- ---- tests over all entries of a form
 abbrev pub Inside : List ℕ → List ℕ → Type 0
-Inside [] [] = Unit {0}
-Inside [] (k ∷ ks) = ⊥
-Inside (s ∷ ss) [] = ⊥
-Inside (s ∷ ss) (k ∷ ks) = (k < s) × Inside ss ks
+Inside = Along (λ s k. k < s)
 
 abbrev pub upTo : ℕ → (ℕ → Bool) → Bool
 upTo zero f = true

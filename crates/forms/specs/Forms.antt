@@ -8,7 +8,9 @@
 --   restrict Ms T == the form on that cell: its entries are the values at the cell's corners
 --   pick Ms ks   == the corners that the indices ks name
 --   times x ws   == x times every row; power x ws is x to the number of rows
+--   mass ws      == the product of the rows' totals
 --   NonNeg T     == no entry is negative
+--   Along R l m  == R holds between the lists l and m, place by place
 --   Touch ws ks  == each row has weight at its index
 --   Picks ws ks  == each row weighs its index alone, by 1
 -- Definitions only.
@@ -18,7 +20,7 @@ use Prim.Native.Nat.{ℕ, _*_, _<_}
 use lib.IntN.{ℤ, pos}
 use lib.ListN.{getD}
 use lib.Signed.{_≤ℤ_}
-use Rattle.forms.specs.Rows.{Row, _⊙_, mix, weigh}
+use Rattle.forms.specs.Rows.{Row, _⊙_, mix, total, weigh}
 
 abbrev pub Form : Type 0
 Form = List ℕ → ℤ
@@ -53,17 +55,21 @@ abbrev pub power : ℕ → List Row → ℕ
 power x [] = 1
 power x (w ∷ ws) = x * power x ws
 
+abbrev pub mass : List Row → ℕ
+mass [] = 1
+mass (w ∷ ws) = total w * mass ws
+
 abbrev pub NonNeg : Form → Type 0
 NonNeg T = (ks : List ℕ) → pos 0 ≤ℤ T ks
 
+abbrev pub Along : {A B : Type 0} → (A → B → Type 0) → List A → List B → Type 0
+Along R [] [] = Unit {0}
+Along R [] (b ∷ bs) = ⊥
+Along R (a ∷ as′) [] = ⊥
+Along R (a ∷ as′) (b ∷ bs) = R a b × Along R as′ bs
+
 abbrev pub Touch : List Row → List ℕ → Type 0
-Touch [] [] = Unit {0}
-Touch [] (k ∷ ks) = ⊥
-Touch (w ∷ ws) [] = ⊥
-Touch (w ∷ ws) (k ∷ ks) = (0 < getD w k 0) × Touch ws ks
+Touch = Along (λ w k. 0 < getD w k 0)
 
 abbrev pub Picks : List Row → List ℕ → Type 0
-Picks [] [] = Unit {0}
-Picks [] (k ∷ ks) = ⊥
-Picks (w ∷ ws) [] = ⊥
-Picks (w ∷ ws) (k ∷ ks) = ((f : ℕ → ℤ) → weigh w f ≡ f k) × Picks ws ks
+Picks = Along (λ w k. (f : ℕ → ℤ) → weigh w f ≡ f k)

@@ -1,4 +1,5 @@
 -- The notions of the theory of cells, one subject a file.
+pub mod Binomials
 pub mod Rows
 pub mod Forms
 pub mod Cells

@@ -1,58 +1,67 @@
--- What determines the stored values: each of them is read off from values at a few points. Where a point weighs some of a
--- value's indices, the values at the choices that leave out an even number of them, less those that leave out an odd
--- number, are a multiple of the stored value (for one direction of n slots, n! times).
---   chosen s ks      == the rows of size s that weigh some of the indices ks: even and odd ones
---   probes ns ss ks  == the points with such rows along each direction: even and odd ones
---   gather rs        == the sum of the rows
---   readings S ws    == the coefficients of the stored values at each of the points ws, added up
+-- What determines the stored values: each of them is read off from values at a few points. A stored value has degrees in
+-- each direction. At weights below its degrees, the values times the binomials, those that leave out an even number of its
+-- indices less those that leave out an odd number, are a multiple of it (for one direction of n slots, n! times).
+--   below ms         == the rows n ≤ ms with the weight ΠC(m, n): even and odd ones
+--   probes ds        == the points with such rows along each direction, not zero, with their weights: even and odd ones
+--   readings S l     == the coefficients of the stored values at each of the points l, times its weight, added up
 --   readable S       == the test that the values at these points determine all stored values
 -- Definitions only.
-use mathlib.Core.Bool.{Bool, true, false, _&&_}
+use mathlib.Core.Bool.{Bool, true, false, cond, _&&_}
 use mathlib.Core.List.{List, [], _∷_, _++_, map}
 use Prim.Native.Nat.{ℕ, zero, suc, _+_, _*_}
-use lib.Dec.{eqb, ltb}
-use lib.ListN.{length, take, drop}
-use Rattle.forms.specs.Rows.{Row, _⊕_, _⊙_, total, unit, corner}
+use lib.Dec.{ltb}
+use lib.ListN.{length}
+use Rattle.forms.specs.Binomials.{choose, factorial}
+use Rattle.forms.specs.Rows.{Row, _⊕_, _⊙_, total, unit}
 use Rattle.forms.specs.Cells.{coeffs, same}
 use Rattle.forms.specs.Shapes.{Shape, spread}
 
--- even ones first, then odd ones
-abbrev Both : Type 0 → Type 0
-Both A = A × A
+-- a thing with its weight; those with an even number left out, and those with an odd number
+abbrev pub Weighted : Type 0 → Type 0
+Weighted A = ℕ × A
 
--- a row alone: even where the number of indices left out is
-abbrev pub alone : ℕ → Row → Both (List Row)
-alone zero r = (r ∷ [], [])
-alone (suc zero) r = ([], r ∷ [])
-alone (suc (suc n)) r = alone n r
+abbrev pub Both : Type 0 → Type 0
+Both A = List (Weighted A) × List (Weighted A)
 
--- the first index is chosen with some of the others, left out, or chosen alone
-abbrev pub chosen : ℕ → List ℕ → Both (List Row)
-chosen s [] = ([], [])
-chosen s (k ∷ ks) =
-    let (even, odd) = chosen s ks in
-    let (e, o) = alone (length ks) (corner s k) in
-    (map (λ r. corner s k ⊕ r) even ++ (odd ++ e), map (λ r. corner s k ⊕ r) odd ++ (even ++ o))
+abbrev pub joined : {A : Type 0} → Both A → Both A → Both A
+joined (a, b) (c, d) = (a ++ c, b ++ d)
 
-abbrev pub pairs : List Row → List (List Row) → List (List Row)
+abbrev pub changed : {A : Type 0} → ℕ → Both A → Both A
+changed zero l = l
+changed (suc zero) (even, odd) = (odd, even)
+changed (suc (suc j)) l = changed j l
+
+abbrev pub put : ℕ → ℕ → List (Weighted Row) → List (Weighted Row)
+put m n [] = []
+put m n ((w, r) ∷ l) = (choose m n * w, n ∷ r) ∷ put m n l
+
+-- of m indices n are chosen and j left out, and the same for fewer chosen
+abbrev pub fewer : ℕ → ℕ → ℕ → Both Row → Both Row
+fewer m zero j (e, o) = changed j (put m 0 e, put m 0 o)
+fewer m (suc n) j (e, o) = joined (changed j (put m (suc n) e, put m (suc n) o)) (fewer m n (suc j) (e, o))
+
+abbrev pub below : Row → Both Row
+below [] = ((1, []) ∷ [], [])
+below (m ∷ ms) = fewer m m 0 (below ms)
+
+-- without the row that weighs nothing
+abbrev pub heavyOnly : List (Weighted Row) → List (Weighted Row)
+heavyOnly [] = []
+heavyOnly ((w, r) ∷ l) = cond (ltb 0 (total r)) ((w, r) ∷ heavyOnly l) (heavyOnly l)
+
+abbrev pub with : Weighted Row → List (Weighted (List Row)) → List (Weighted (List Row))
+with wr [] = []
+with (w, r) ((v, rs) ∷ l) = (w * v, r ∷ rs) ∷ with (w, r) l
+
+abbrev pub pairs : List (Weighted Row) → List (Weighted (List Row)) → List (Weighted (List Row))
 pairs [] ls = []
-pairs (r ∷ rs) ls = map (λ l. r ∷ l) ls ++ pairs rs ls
+pairs (wr ∷ l) ls = with wr ls ++ pairs l ls
 
-abbrev pub probes : List ℕ → List ℕ → List ℕ → Both (List (List Row))
-probes [] ss ks = ([] ∷ [], [])
-probes (n ∷ ns) [] ks = ([], [])
-probes (n ∷ ns) (s ∷ ss) ks =
-    let (even, odd) = chosen s (take n ks) in
-    let (E, O) = probes ns ss (drop n ks) in
-    (pairs even E ++ pairs odd O, pairs even O ++ pairs odd E)
-
-abbrev pub gather : List Row → Row
-gather [] = []
-gather (r ∷ rs) = r ⊕ gather rs
-
-abbrev pub factorial : ℕ → ℕ
-factorial zero = 1
-factorial (suc n) = suc n * factorial n
+abbrev pub probes : List Row → Both (List Row)
+probes [] = ((1, []) ∷ [], [])
+probes (ms ∷ ds) =
+    let (e, o) = below ms in let (E, O) = probes ds in
+    (pairs (heavyOnly e) E ++ pairs (heavyOnly o) O, pairs (heavyOnly e) O ++ pairs (heavyOnly o) E)
 
 abbrev pub orders : List ℕ → ℕ
 orders [] = 1
@@ -62,23 +71,24 @@ abbrev pub heavy : List Row → Bool
 heavy [] = true
 heavy (w ∷ ws) = ltb 0 (total w) && heavy ws
 
-abbrev pub arePoints : List ℕ → List (List Row) → Bool
+abbrev pub arePoints : List ℕ → List (Weighted (List Row)) → Bool
 arePoints ss [] = true
-arePoints ss (ws ∷ l) = (same (map length ws) ss && heavy ws) && arePoints ss l
+arePoints ss ((w, ws) ∷ l) = (same (map length ws) ss && heavy ws) && arePoints ss l
 
 module _ (S : Shape) where
-  abbrev pub readings : List (List Row) → Row
-  readings l = gather (map (λ ws. coeffs (spread (S .counts) ws) (S .place)) l)
+  abbrev pub readings : List (Weighted (List Row)) → Row
+  readings [] = []
+  readings ((w, ws) ∷ l) = w ⊙ coeffs (spread (S .counts) ws) (S .place) ⊕ readings l
 
-  -- the value with the indices ks, at place k
-  abbrev pub readsOne : ℕ → List ℕ → Bool
-  readsOne k ks =
-      let (even, odd) = probes (S .counts) (S .sizes) ks in
+  -- the value of the degrees ds, at place k
+  abbrev pub readsOne : ℕ → List Row → Bool
+  readsOne k ds =
+      let (even, odd) = probes ds in
       (arePoints (S .sizes) even && arePoints (S .sizes) odd) && same (readings even) (orders (S .counts) ⊙ unit k ⊕ readings odd)
 
-  abbrev pub readsFrom : ℕ → List (List ℕ) → Bool
+  abbrev pub readsFrom : ℕ → List (List Row) → Bool
   readsFrom k [] = true
-  readsFrom k (ks ∷ l) = readsOne k ks && readsFrom (suc k) l
+  readsFrom k (ds ∷ l) = readsOne k ds && readsFrom (suc k) l
 
   abbrev pub readable : Bool
   readable = ltb 0 (orders (S .counts)) && readsFrom 0 (S .entries)

@@ -3,15 +3,15 @@
 --   ends h            == the ends of a half, in doubled weights
 --   alongU i, alongV i == the halves whose meeting is quarter i
 --   quarterOf h k     == the quarter where half h along u meets half k along v
---   choose n k        == the binomial coefficient
 --   weight h a i      == the weight of the old value i in the new value a, along one direction, with factor 8
 --   quad              == the shape: value (I, J) at place I + 4J
 -- Definitions only.
 use mathlib.Core.Bool.{cond}
-use mathlib.Core.List.{List, [], _∷_, _++_}
+use mathlib.Core.List.{List, [], _∷_}
 use Prim.Native.Nat.{ℕ, zero, suc, _+_, _*_, _-_, _^_}
 use lib.Dec.{leb}
 use lib.ListN.{getD}
+use Rattle.forms.specs.Binomials.{choose}
 use Rattle.forms.specs.Rows.{Row}
 use Rattle.forms.specs.Cuttings.{Four, first, second, third, fourth}
 use Rattle.forms.specs.Shapes.{Shape}
@@ -42,11 +42,6 @@ quarterOf upper lower = second
 quarterOf lower upper = third
 quarterOf upper upper = fourth
 
-abbrev pub choose : ℕ → ℕ → ℕ
-choose n zero = 1
-choose zero (suc k) = 0
-choose (suc n) (suc k) = choose n k + choose n (suc k)
-
 -- "the lower half has weight C(a,i)·2^(3-a) for i ≤ a, the upper half C(3-a,i-a)·2^a for i ≥ a, zero otherwise"
 abbrev pub weight : Half → ℕ → ℕ → ℕ
 weight lower a i = cond (leb i a) (choose a i * 2 ^ (3 - a)) 0
@@ -60,9 +55,6 @@ sixteen f =
 -- "the two directions multiply"
 abbrev pub table : Four → List Row
 table i = sixteen (λ a b. sixteen (λ I J. weight (alongU i) a I * weight (alongV i) b J))
-
-abbrev pub rising : ℕ → List ℕ
-rising I = getD ((0 ∷ 0 ∷ 0 ∷ []) ∷ (0 ∷ 0 ∷ 1 ∷ []) ∷ (0 ∷ 1 ∷ 1 ∷ []) ∷ (1 ∷ 1 ∷ 1 ∷ []) ∷ []) I []
 
 abbrev pub place : List ℕ → ℕ
 place [] = 16
@@ -78,7 +70,7 @@ quad =
     record {
       counts = 3 ∷ 3 ∷ [];
       sizes = 2 ∷ 2 ∷ [];
-      entries = sixteen (λ I J. rising I ++ rising J);
+      entries = sixteen (λ I J. ((3 - I) ∷ I ∷ []) ∷ ((3 - J) ∷ J ∷ []) ∷ []);
       place = place;
       corners = (0 ∷ 0 ∷ []) ∷ (1 ∷ 0 ∷ []) ∷ (0 ∷ 1 ∷ []) ∷ (1 ∷ 1 ∷ []) ∷ [];
       cuts = λ i. ends (alongU i) ∷ ends (alongV i) ∷ [];

@@ -2,6 +2,7 @@
 -- or more directions, each with as many slots as its degree; the point's weights along a direction go into all its slots.
 --   Shape          == the data, a field each
 --   slots S l      == the list l, one thing a direction, spread over the slots of each direction
+--   indices ds     == the indices of an entry of these degrees
 --   tips S         == the places of the corner values
 --   pass, cutTo S i == the sign test, and quarter i of a cell
 --   scaled S c ws  == the value of the stored values c at the weights ws
@@ -25,8 +26,9 @@ pub record Shape : Type 0 where
   -- how many slots each direction has, and how many weights a slot of it takes
   pub counts : List ℕ
   pub sizes : List ℕ
-  -- the indices of each stored value, and the place where the value with given indices is stored
-  pub entries : List (List ℕ)
+  -- the degrees of each stored value: how many slots of each direction hold each component; and the place where the
+  -- entry with given indices is stored
+  pub entries : List (List Row)
   pub place : List ℕ → ℕ
   -- the corners, an index a direction
   pub corners : List (List ℕ)
@@ -56,6 +58,15 @@ abbrev pub units : List ℕ → List ℕ → List Row
 units [] ks = []
 units (s ∷ ss) [] = []
 units (s ∷ ss) (k ∷ ks) = corner s k ∷ units ss ks
+
+-- indices of these degrees: as many 0 as the first says, and so on, direction by direction
+abbrev pub indicesOf : ℕ → Row → List ℕ → List ℕ
+indicesOf k [] l = l
+indicesOf k (m ∷ ms) l = onto m k (indicesOf (suc k) ms l)
+
+abbrev pub indices : List Row → List ℕ
+indices [] = []
+indices (ms ∷ ds) = indicesOf 0 ms (indices ds)
 
 -- the weight at an index of a direction
 abbrev pub entry : ℕ × ℕ → List Row → ℕ
@@ -129,6 +140,8 @@ pub record Lawful (S : Shape) : Type 0 where
   pub tabled : T (inFour (λ i. Tabled (spread (S .counts) (S .sizes)) (S .place) (spread (S .counts) (S .cuts i)) (S .table i)))
   pub grown : T (inFour (λ i. rowsAdd (S .growth) (S .table i)))
   pub inherited : T (inFour (λ i. heirs (tips S) (tips S) (S .table i)))
+  -- every entry is stored
+  pub kept : T (every (spread (S .counts) (S .sizes)) (λ ks. ltb (S .place ks) (length (S .entries))))
   -- the corners of the quarters are in doubled weights
   pub doubled : T (inFour (λ i. doubling (S .sizes) (S .cuts i)))
   -- the corners are all combinations of indices, one a direction

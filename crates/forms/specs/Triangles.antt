@@ -1,7 +1,7 @@
 -- Triangles: one direction with three weights p, q, r, cut at the edge middles (01, "Cutting a cell").
 --   V0 .. V2, E01 .. E02 == the corners and edge middles of a cell, in doubled weights
 --   quarterCorners i     == the corners of quarter i, in 01's order
---   triangle n entries place == the shape of a triangle of degree n, its values stored in the order of the entries
+--   triangle n degrees place == the shape of a triangle of degree n, its values stored in the order of these degrees
 --   six                  == the quadratic triangle's: degree 2, values c00, c11, c22, c01, c12, c02
 -- Definitions only.
 use mathlib.Core.List.{List, [], _∷_, map}
@@ -11,7 +11,7 @@ use Rattle.forms.specs.Rows.{Row}
 use Rattle.forms.specs.Forms.{pick}
 use Rattle.forms.specs.Cells.{coeffs}
 use Rattle.forms.specs.Cuttings.{Four, first, second, third, fourth}
-use Rattle.forms.specs.Shapes.{Shape, spread}
+use Rattle.forms.specs.Shapes.{Shape, spread, indices}
 
 abbrev pub V0 : Row
 V0 = 2 ∷ 0 ∷ 0 ∷ []
@@ -42,16 +42,16 @@ abbrev pub cuts : Four → List (ℕ → Row)
 cuts i = (λ k. getD (quarterCorners i) k []) ∷ []
 
 -- a quarter's value is the form at the quarter's corners, in doubled weights
-abbrev pub triangle : ℕ → List (List ℕ) → (List ℕ → ℕ) → Shape
-triangle n entries place =
+abbrev pub triangle : ℕ → List Row → (List ℕ → ℕ) → Shape
+triangle n degrees place =
     record {
       counts = n ∷ [];
       sizes = 3 ∷ [];
-      entries = entries;
+      entries = map (λ ms. ms ∷ []) degrees;
       place = place;
       corners = (0 ∷ []) ∷ (1 ∷ []) ∷ (2 ∷ []) ∷ [];
       cuts = cuts;
-      table = λ i. map (λ ks. coeffs (pick (spread (n ∷ []) (cuts i)) ks) place) entries;
+      table = λ i. map (λ ms. coeffs (pick (spread (n ∷ []) (cuts i)) (indices (ms ∷ []))) place) degrees;
       growth = 2 ^ n;
       last = λ n j. n - j;
       rows = λ n i j. ((n - i - j) ∷ i ∷ j ∷ []) ∷ [];
@@ -60,8 +60,8 @@ triangle n entries place =
     }
 
 -- "Order: c00, c11, c22, c01, c12, c02"
-abbrev pub entries6 : List (List ℕ)
-entries6 = (0 ∷ 0 ∷ []) ∷ (1 ∷ 1 ∷ []) ∷ (2 ∷ 2 ∷ []) ∷ (0 ∷ 1 ∷ []) ∷ (1 ∷ 2 ∷ []) ∷ (0 ∷ 2 ∷ []) ∷ []
+abbrev pub degrees6 : List Row
+degrees6 = (2 ∷ 0 ∷ 0 ∷ []) ∷ (0 ∷ 2 ∷ 0 ∷ []) ∷ (0 ∷ 0 ∷ 2 ∷ []) ∷ (1 ∷ 1 ∷ 0 ∷ []) ∷ (0 ∷ 1 ∷ 1 ∷ []) ∷ (1 ∷ 0 ∷ 1 ∷ []) ∷ []
 
 abbrev pub places6 : List (List ℕ)
 places6 = (0 ∷ 3 ∷ 5 ∷ []) ∷ (3 ∷ 1 ∷ 4 ∷ []) ∷ (5 ∷ 4 ∷ 2 ∷ []) ∷ []
@@ -73,4 +73,4 @@ place6 (k ∷ l ∷ []) = getD (getD places6 k []) l 6
 place6 (k ∷ l ∷ m ∷ ms) = 6
 
 abbrev pub six : Shape
-six = triangle 2 entries6 place6
+six = triangle 2 degrees6 place6

@@ -1,0 +1,77 @@
+-- The bounds for a solver: one least and one greatest value, and the scaled J between them.
+--   least-unique, greatest-unique : there is one of each
+--   bounds-between   : at every place of the element the scaled J lies between the least and the greatest control value
+-- For all kinds. Assumes nothing.
+use mathlib.Core.Path.{_≡_, refl, sym, _∙_, ap, subst}
+use mathlib.Core.List.{List, [], _∷_}
+use Prim.Native.Nat.{ℕ, _+_, _*_, _-_, _≤_}
+use native.Mathlib.Omega.{arith}
+use lib.IntN.{ℤ, pos, _*ℤ_, *ℤ-comm}
+use lib.ListN.{length}
+use lib.Signed.{_≤ℤ_}
+use Rattle.algebra.proofs.Order.{0≤pos, ≤-antisymm, *ℤ-mono}
+use Rattle.forms.specs.Forms.{mass}
+use Rattle.forms.specs.Shapes.{spread, scaled, Sized}
+use Rattle.forms.proofs.Between.{scaled-above, scaled-below}
+use Rattle.element.specs.Kinds.{Kind, six, eight, nine, scale}
+use Rattle.element.specs.Places.{InQuad, Place}
+use Rattle.element.specs.Jacobian.{jacobian, fold}
+use Rattle.element.specs.Control.{controlValues, at}
+use Rattle.element.specs.Cells.{shapeOf}
+use Rattle.element.specs.Bounds.{Least, Greatest, cube, weightOf, Between}
+use Rattle.element.proofs.Places.{quadRows, rowsOf, place-point, scaled-is-J}
+use Rattle.element.proofs.Values.{shape-lawful, values-length, entries-count}
+
+pub least-unique : (c : List ℤ) (y z : ℤ) → Least c y → Least c z → y ≡ z
+least-unique c y z a b =
+    ≤-antisymm (subst (λ v. y ≤ℤ v) (b .there) (a .below (b .place) (b .in-list))) (subst (λ v. z ≤ℤ v) (a .there) (b .below (a .place) (a .in-list)))
+
+pub greatest-unique : (c : List ℤ) (y z : ℤ) → Greatest c y → Greatest c z → y ≡ z
+greatest-unique c y z a b =
+    ≤-antisymm (subst (λ v. v ≤ℤ z) (a .there) (b .above (a .place) (a .in-list))) (subst (λ v. v ≤ℤ y) (b .there) (a .above (b .place) (b .in-list)))
+
+-- ---- the product of the totals is the weight of the place
+six-factors : (a b m n : ℕ) → a ≡ m → b ≡ n → a * (a * (a * (b * (b * (b * 1))))) ≡ cube m * cube n
+six-factors a b m n e f = rw (e, f) (omega arith)
+
+quad-mass : (x : InQuad) → mass (spread (3 ∷ 3 ∷ []) (quadRows x)) ≡ cube (x .m) * cube (x .n)
+quad-mass x =
+    let h = x .u-below in let k = x .v-below in
+    six-factors (x .m - x .p + (x .p + 0)) (x .n - x .q + (x .q + 0)) (x .m) (x .n) (omega arith) (omega arith)
+
+mass-is : (k : Kind) (x : Place k) → mass (spread (shapeOf k .counts) (rowsOf k x)) ≡ weightOf k x
+mass-is six x = omega arith
+mass-is eight x = quad-mass x
+mass-is nine x = quad-mass x
+
+-- ---- the scaled J lies between
+grow : (n : ℕ) {a b : ℤ} → a ≤ℤ b → (pos n *ℤ a) ≤ℤ (pos n *ℤ b)
+grow n {a} {b} h =
+    subst (λ z. z ≤ℤ (pos n *ℤ b)) (*ℤ-comm a (pos n)) (subst (λ z. (a *ℤ pos n) ≤ℤ z) (*ℤ-comm b (pos n)) (*ℤ-mono (0≤pos n) h))
+
+pub bounds-between : (k : Kind) (xs : List ℤ) (lo hi : ℤ) → Least (controlValues k xs) lo
+    → Greatest (controlValues k xs) hi
+    → (x : Place k)
+    → Between k xs lo hi x
+bounds-between k xs lo hi l g x =
+    record {
+      low = subst (λ z. (f *ℤ (pos (weightOf k x) *ℤ lo)) ≤ℤ z) (scaled-is-J k xs x)
+          (grow (fold k * fold k) (subst (λ (n : ℕ). (pos n *ℤ lo) ≤ℤ v) (mass-is k x) (scaled-above (shapeOf k) (shape-lawful k) c full (rowsOf k x) sized lo (l .below))));
+      high = subst (λ z. z ≤ℤ (f *ℤ (pos (weightOf k x) *ℤ hi))) (scaled-is-J k xs x)
+          (grow (fold k * fold k) (subst (λ (n : ℕ). v ≤ℤ (pos n *ℤ hi)) (mass-is k x) (scaled-below (shapeOf k) (shape-lawful k) c full (rowsOf k x) sized hi (g .above))));
+    }
+  where
+    f : ℤ
+    f = pos (fold k * fold k)
+
+    c : List ℤ
+    c = controlValues k xs
+
+    v : ℤ
+    v = scaled (shapeOf k) c (rowsOf k x)
+
+    full : length c ≡ length (shapeOf k .entries)
+    full = values-length k xs ∙ entries-count k
+
+    sized : Sized (shapeOf k .sizes) (rowsOf k x)
+    sized = place-point k x .sized

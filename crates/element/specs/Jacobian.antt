@@ -1,0 +1,98 @@
+-- J from the nodes: the derivatives of the polynomial map through the nodes, and their determinant (01, "From nodes to
+-- control values"). Control values are not mentioned here.
+--   slopeξ, slopeη xs p q r   == w·X_ξ and w·X_η of a triangle at the weights p, q, r, with w = p + q + r
+--   J6 xs p q r               == their determinant, w²·J
+--   s p m i, s' p m i         == the shape functions of one direction and their slopes, at p/m
+--   slopeU, slopeV N p m q n  == mn²·X_u and m²n·X_v of a quad with the nodes N at u = p/m, v = q/n
+--   J9 xs p m q n             == their determinant for nine nodes, m³n³·J
+--   fourfold8 xs i j          == four times the nodes of an eight-node quad, its centre the mean of the edge nodes
+--   J8 xs p m q n             == the determinant of both slopes taken fourfold, 16·m³n³·J
+--   jacobian k xs x           == the determinant at the place x of an element of kind k: J times a positive number
+--   gridJ k xs d i j          == the determinant at the grid point (i, j) of level d
+--   fold k                    == how many fold the slopes are taken: 4 for eight nodes, else 1
+--   Bad k xs d i j            == J is not positive at that grid point
+--   Shows k xs d i j z        == z is J there times the scale of the level, without division
+-- Definitions only.
+use mathlib.Core.Path.{_≡_}
+use mathlib.Core.Bool.{cond, _&&_}
+use mathlib.Core.List.{List}
+use Prim.Native.Nat.{ℕ, zero, suc, _+_, _*_, _-_, _^_, _≤_, _<_}
+use lib.Dec.{eqb}
+use lib.IntN.{ℤ, pos, _+ℤ_, _-ℤ_, _*ℤ_}
+use lib.Signed.{_≤ℤ_}
+use Rattle.element.specs.Kinds.{Kind, six, eight, nine, scale}
+use Rattle.element.specs.Plane.{Vec, _+ᵥ_, _-ᵥ_, _*ᵥ_, det, sumᵥ}
+use Rattle.element.specs.Places.{Place, OnGrid}
+use Rattle.element.specs.Nodes.{A0, A1, A2, M01, M12, M02, A9, A8}
+
+-- ---- triangle
+-- "w·X_ξ = (4q-w)A1 - (4p-w)A0 + 4(p-q)M01 + 4r(M12-M02)"
+unfoldable pub slopeξ : List ℤ → ℤ → ℤ → ℤ → Vec
+slopeξ xs p q r =
+    let w : ℤ = p +ℤ q +ℤ r in
+    (pos 4 *ℤ q -ℤ w) *ᵥ A1 xs -ᵥ (pos 4 *ℤ p -ℤ w) *ᵥ A0 xs +ᵥ (pos 4 *ℤ (p -ℤ q)) *ᵥ M01 xs +ᵥ (pos 4 *ℤ r) *ᵥ (M12 xs -ᵥ M02 xs)
+
+-- "w·X_η = (4r-w)A2 - (4p-w)A0 + 4(p-r)M02 + 4q(M12-M01)"
+unfoldable pub slopeη : List ℤ → ℤ → ℤ → ℤ → Vec
+slopeη xs p q r =
+    let w : ℤ = p +ℤ q +ℤ r in
+    (pos 4 *ℤ r -ℤ w) *ᵥ A2 xs -ᵥ (pos 4 *ℤ p -ℤ w) *ᵥ A0 xs +ᵥ (pos 4 *ℤ (p -ℤ r)) *ᵥ M02 xs +ᵥ (pos 4 *ℤ q) *ᵥ (M12 xs -ᵥ M01 xs)
+
+unfoldable pub J6 : List ℤ → ℕ → ℕ → ℕ → ℤ
+J6 xs p q r = det (slopeξ xs (pos p) (pos q) (pos r)) (slopeη xs (pos p) (pos q) (pos r))
+
+-- ---- quad
+-- "s0, s1, s2 be (m-p)(m-2p), 4p(m-p), p(2p-m)"
+abbrev pub s : ℤ → ℤ → ℕ → ℤ
+s p m zero = (m -ℤ p) *ℤ (m -ℤ pos 2 *ℤ p)
+s p m (suc zero) = pos 4 *ℤ p *ℤ (m -ℤ p)
+s p m (suc (suc i)) = p *ℤ (pos 2 *ℤ p -ℤ m)
+
+-- "s'0, s'1, s'2 be 4p-3m, 4m-8p, 4p-m"
+abbrev pub s' : ℤ → ℤ → ℕ → ℤ
+s' p m zero = pos 4 *ℤ p -ℤ pos 3 *ℤ m
+s' p m (suc zero) = pos 4 *ℤ m -ℤ pos 8 *ℤ p
+s' p m (suc (suc i)) = pos 4 *ℤ p -ℤ m
+
+-- "mn²·X_u is the sum of s'i·tj·Aij and m²n·X_v that of si·t'j·Aij, over i, j from 0 to 2"
+unfoldable pub slopeU : (ℕ → ℕ → Vec) → ℤ → ℤ → ℤ → ℤ → Vec
+slopeU N p m q n = sumᵥ 3 (λ i. sumᵥ 3 (λ j. (s' p m i *ℤ s q n j) *ᵥ N i j))
+
+unfoldable pub slopeV : (ℕ → ℕ → Vec) → ℤ → ℤ → ℤ → ℤ → Vec
+slopeV N p m q n = sumᵥ 3 (λ i. sumᵥ 3 (λ j. (s p m i *ℤ s' q n j) *ᵥ N i j))
+
+unfoldable pub J9 : List ℤ → ℕ → ℕ → ℕ → ℕ → ℤ
+J9 xs p m q n = det (slopeU (A9 xs) (pos p) (pos m) (pos q) (pos n)) (slopeV (A9 xs) (pos p) (pos m) (pos q) (pos n))
+
+-- four times each node; "the centre node is the mean of the four edge nodes"
+unfoldable pub fourfold8 : List ℤ → ℕ → ℕ → Vec
+fourfold8 xs i j = cond (eqb i 1 && eqb j 1) (A8 xs 1 0 +ᵥ A8 xs 0 1 +ᵥ A8 xs 2 1 +ᵥ A8 xs 1 2) (pos 4 *ᵥ A8 xs i j)
+
+unfoldable pub J8 : List ℤ → ℕ → ℕ → ℕ → ℕ → ℤ
+J8 xs p m q n = det (slopeU (fourfold8 xs) (pos p) (pos m) (pos q) (pos n)) (slopeV (fourfold8 xs) (pos p) (pos m) (pos q) (pos n))
+
+-- ---- at a point
+abbrev pub jacobian : (k : Kind) → List ℤ → Place k → ℤ
+jacobian six xs x = J6 xs (x .p) (x .q) (x .r)
+jacobian eight xs x = J8 xs (x .p) (x .m) (x .q) (x .n)
+jacobian nine xs x = J9 xs (x .p) (x .m) (x .q) (x .n)
+
+abbrev pub gridJ : Kind → List ℤ → ℕ → ℕ → ℕ → ℤ
+gridJ six xs d i j = J6 xs (2 ^ d - i - j) i j
+gridJ eight xs d i j = J8 xs i (2 ^ d) j (2 ^ d)
+gridJ nine xs d i j = J9 xs i (2 ^ d) j (2 ^ d)
+
+-- "for kind 8, A11 is the stated centre and both are taken fourfold"
+abbrev pub fold : Kind → ℕ
+fold six = 1
+fold eight = 4
+fold nine = 1
+
+-- "A point is bad when J ≤ 0 there": gridJ is J times a positive number
+pub record Bad (k : Kind) (xs : List ℤ) (d i j : ℕ) : Type 0 where
+  pub on-grid : OnGrid k d i j
+  pub not-positive : gridJ k xs d i j ≤ℤ pos 0
+
+-- gridJ is 4^d·J for six nodes, 64^d·J for nine, and 4²·64^d·J for eight
+abbrev pub Shows : Kind → List ℤ → ℕ → ℕ → ℕ → ℤ → Type 0
+Shows k xs d i j z = pos (fold k * fold k) *ℤ z ≡ pos (scale k 0) *ℤ gridJ k xs d i j

@@ -1,0 +1,59 @@
+-- Refusals by number, in a fixed order (01, "Codes and what they leave": "The first fault in this order counts").
+--   Codes A          == faults in their order, each with the answer that names it
+--   Refused o c      == c names the first fault of the order that is there
+--   Accepted o       == no fault of the order is there
+--   NotKind n, AboveLevel k l, WrongLength n xs, Outside k xs, ShortRoom k room == the faults of an element
+--   controlCodes, boundsCodes, verdictCodes == the orders of the calls
+-- Definitions only.
+use mathlib.Core.Path.{_≡_}
+use mathlib.Core.List.{List}
+use mathlib.Core.Logic.{_⊎_}
+use Prim.Native.Nat.{ℕ, _*_, _<_}
+use lib.IntN.{ℤ, natAbs}
+use lib.ListN.{length}
+use Rattle.element.specs.Kinds.{Kind, kindOf, NotKind, coordinateLimit, greatestLevel, valueCount}
+use Rattle.element.specs.Control.{at}
+
+pub data Codes (A : Type 0) : Type 1 where
+  no-more : Codes A
+  code : A → Type 0 → Codes A → Codes A
+
+abbrev pub Refused : {A : Type 0} → Codes A → A → Type 0
+Refused no-more c = ⊥
+Refused (code n F o) c = (F × (c ≡ n)) ⊎ (¬ F × Refused o c)
+
+abbrev pub Accepted : {A : Type 0} → Codes A → Type 0
+Accepted no-more = Unit {0}
+Accepted (code n F o) = ¬ F × Accepted o
+
+-- ---- the faults; n is the number given as the kind
+-- 2: "level limit above the kind's greatest"
+abbrev pub AboveLevel : Kind → ℕ → Type 0
+AboveLevel k l = greatestLevel k < l
+
+-- 3: "coordinate list not 2 numbers per node"
+abbrev pub WrongLength : ℕ → List ℤ → Type 0
+WrongLength n xs = ¬ (length xs ≡ 2 * n)
+
+-- 4: "a coordinate outside its limit"
+abbrev pub Outside : Kind → List ℤ → Type 0
+Outside k xs = (i : ℕ) × (i < length xs) × (coordinateLimit k < natAbs (at xs i))
+
+-- 5: "buffer too short"
+abbrev pub ShortRoom : Kind → ℕ → Type 0
+ShortRoom k room = room < valueCount k
+
+-- ---- the orders
+-- "Control values and bounds: 1, 3, 4, then 5 (control values only)"
+abbrev pub elementCodes : ℕ → List ℤ → Codes ℕ → Codes ℕ
+elementCodes n xs o = code 3 (WrongLength n xs) (code 4 (Outside (kindOf n) xs) o)
+
+abbrev pub controlCodes : ℕ → List ℤ → ℕ → Codes ℕ
+controlCodes n xs room = code 1 (NotKind n) (elementCodes n xs (code 5 (ShortRoom (kindOf n) room) no-more))
+
+abbrev pub boundsCodes : ℕ → List ℤ → Codes ℕ
+boundsCodes n xs = code 1 (NotKind n) (elementCodes n xs no-more)
+
+-- "Verdict: 1, 2, 3, 4"
+abbrev pub verdictCodes : ℕ → ℕ → List ℤ → Codes ℕ
+verdictCodes n l xs = code 1 (NotKind n) (code 2 (AboveLevel (kindOf n) l) (elementCodes n xs no-more))

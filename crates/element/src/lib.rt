@@ -1,0 +1,1 @@
+// The kinds of element, their nodes, J, and their control values.

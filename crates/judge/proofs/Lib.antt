@@ -1,0 +1,8 @@
+-- The laws of the verdict, one subject a file.
+pub mod Faithful
+pub mod Levels
+pub mod Unique
+pub mod Search
+pub mod Computed
+pub mod Demands
+pub mod Twelve

@@ -1,0 +1,4 @@
+-- The verdict, in 01's words, and the twelve elements.
+pub mod Verdict
+pub mod Elements
+pub mod Twelve

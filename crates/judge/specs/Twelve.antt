@@ -1,0 +1,85 @@
+-- The twelve elements of 01 ("Twelve elements to prove"): each with its limit, its control values and its verdict.
+--   F t, G t s      == the triangles of the two families
+--   grid9 k c       == the nine-node quad with nodes (k·i, k·j) and the given centre
+--   Row             == an element, a limit, its values and the answer
+--   twelve          == the list
+--   Holds r         == the claim about a row
+-- Definitions only.
+use mathlib.Core.Path.{_≡_}
+use mathlib.Core.List.{List, [], _∷_, _++_}
+use Prim.Native.Nat.{ℕ, _+_, _*_}
+use lib.IntN.{ℤ, pos, negℤ}
+use lib.ListN.{replicate}
+use Rattle.element.specs.Kinds.{Kind, six, nine}
+use Rattle.element.specs.Control.{controlValues}
+use Rattle.judge.specs.Verdict.{Word, valid, invalid, undecided, Answer, Judges}
+use Rattle.judge.specs.Elements.{subject}
+
+abbrev pub n : ℕ → ℤ
+n k = negℤ (pos k)
+
+-- "F(t): A0(0,0), A1(8,0), A2(0,8), M12(4,4), M02(0,4), M01(4,t)"
+abbrev pub F : ℕ → List ℤ
+F t = pos 0 ∷ pos 0 ∷ pos 8 ∷ pos 0 ∷ pos 0 ∷ pos 8 ∷ pos 4 ∷ pos t ∷ pos 4 ∷ pos 4 ∷ pos 0 ∷ pos 4 ∷ []
+
+-- "G(t,s): A0(-8,0), A1(8,0), A2(0,16), M01(0,t), M12(4+s,8), M02(-4-s,8)"
+abbrev pub G : ℕ → ℕ → List ℤ
+G t s = n 8 ∷ pos 0 ∷ pos 8 ∷ pos 0 ∷ pos 0 ∷ pos 16 ∷ pos 0 ∷ pos t ∷ pos (4 + s) ∷ pos 8 ∷ n (4 + s) ∷ pos 8 ∷ []
+
+abbrev pub grid9 : ℕ → ℕ → ℕ → List ℤ
+grid9 k x y =
+    pos 0 ∷ pos 0 ∷ pos k ∷ pos 0 ∷ pos (2 * k) ∷ pos 0
+    ∷ pos 0 ∷ pos k ∷ pos x ∷ pos y ∷ pos (2 * k) ∷ pos k
+    ∷ pos 0 ∷ pos (2 * k) ∷ pos k ∷ pos (2 * k) ∷ pos (2 * k) ∷ pos (2 * k) ∷ []
+
+pub record Row : Type 0 where
+  pub kind : Kind
+  pub coords : List ℤ
+  pub limit : ℕ
+  pub values : List ℤ
+  pub answer : Answer
+
+abbrev pub row : Kind → List ℤ → ℕ → List ℤ → Answer → Row
+row k xs L c a = record { kind = k; coords = xs; limit = L; values = c; answer = a }
+
+abbrev pub is-valid : ℕ → ℕ → Answer
+is-valid d m = record { word = valid; level = d; i = 0; j = 0; value = pos 0; cells = m }
+
+abbrev pub is-invalid : ℕ → ℕ → ℕ → ℤ → Answer
+is-invalid d i j z = record { word = invalid; level = d; i = i; j = j; value = z; cells = 0 }
+
+abbrev pub is-undecided : ℕ → ℕ → Answer
+is-undecided d m = record { word = undecided; level = d; i = 0; j = 0; value = pos 0; cells = m }
+
+abbrev pub G84 : List ℤ
+G84 = pos 1024 ∷ pos 1024 ∷ pos 1536 ∷ n 1024 ∷ pos 256 ∷ pos 256 ∷ []
+
+-- "rows J = 0, 3: all 576; rows 1, 2: 1344 832 320 -192"
+abbrev pub off-centre : List ℤ
+off-centre =
+    replicate 4 (pos 576)
+    ++ (pos 1344 ∷ pos 832 ∷ pos 320 ∷ n 192 ∷ pos 1344 ∷ pos 832 ∷ pos 320 ∷ n 192 ∷ [])
+    ++ replicate 4 (pos 576)
+
+abbrev pub twelve : List Row
+twelve =
+    row six (F 0) 0 (replicate 6 (pos 128)) (is-valid 0 1)
+    ∷ row six (F 1) 3 (pos 128 ∷ pos 64 ∷ pos 128 ∷ pos 96 ∷ pos 96 ∷ pos 128 ∷ []) (is-valid 0 1)
+    ∷ row six (F 2) 3 (pos 128 ∷ pos 0 ∷ pos 128 ∷ pos 64 ∷ pos 64 ∷ pos 128 ∷ []) (is-invalid 0 1 0 (pos 0))
+    ∷ row six (F 3) 3 (pos 128 ∷ n 64 ∷ pos 128 ∷ pos 32 ∷ pos 32 ∷ pos 128 ∷ []) (is-invalid 0 1 0 (n 64))
+    ∷ row six (G 4 2) 0 (pos 512 ∷ pos 512 ∷ pos 1024 ∷ pos 0 ∷ pos 512 ∷ pos 512 ∷ []) (is-valid 0 1)
+    ∷ row six (G 3 4) 3 (pos 704 ∷ pos 704 ∷ pos 1536 ∷ n 64 ∷ pos 736 ∷ pos 736 ∷ []) (is-valid 1 4)
+    ∷ row six (G 7 4) 3 (pos 960 ∷ pos 960 ∷ pos 1536 ∷ n 832 ∷ pos 352 ∷ pos 352 ∷ []) (is-valid 1 4)
+    ∷ row six (G 8 4) 3 G84 (is-invalid 1 1 0 (pos 0))
+    ∷ row six (G 8 4) 0 G84 (is-undecided 0 1)
+    ∷ row six (replicate 12 (pos 0)) 3 (replicate 6 (pos 0)) (is-invalid 0 0 0 (pos 0))
+    ∷ row nine (grid9 1 1 1) 2 (replicate 16 (pos 144)) (is-valid 0 1)
+    ∷ row nine (grid9 2 3 2) 2 off-centre (is-invalid 1 2 1 (pos 0))
+    ∷ []
+
+abbrev pub Holds : Row → Type 0
+Holds r = (controlValues (r .kind) (r .coords) ≡ r .values) × Judges (subject (r .kind) (r .coords)) (r .limit) (r .answer)
+
+abbrev pub AllHold : List Row → Type 0
+AllHold [] = Unit {0}
+AllHold (r ∷ rs) = Holds r × AllHold rs
