@@ -8,4 +8,5 @@ pub mod Solve
 pub mod Bound
 pub mod Sign
 pub mod Within
+pub mod Fill
 pub mod Tests

@@ -1,7 +1,7 @@
 -- Tests that compute, taken apart and put together.
 --   T-and, and-T   : both of a conjunction hold, and the other way round
 --   T-or           : by cases on a disjunction
---   T-true         : a test that holds is true; T-false, false-T: one that does not is false
+--   T-true, true-T : a test that holds is true; T-false, false-T, false-not: one that does not is false
 --   cond-ind       : by cases on what a test picks
 -- Assumes nothing.
 use mathlib.Core.Path.{_≡_, refl}
@@ -23,6 +23,12 @@ T-or false b X f g t = g t
 pub T-true : (b : Bool) → T b → b ≡ true
 T-true true t = refl
 T-true false t = absurd t
+
+pub true-T : {b : Bool} → b ≡ true → T b
+true-T e = rw e tt
+
+pub false-not : {b : Bool} → b ≡ false → T (not b)
+false-not e = rw e tt
 
 pub T-false : (b : Bool) → b ≡ false → ¬ T b
 T-false b e t = rw e at t

@@ -6,3 +6,4 @@ pub mod Bound
 pub mod Sign
 pub mod Within
 pub mod Samples
+pub mod Fill

@@ -1,10 +1,17 @@
 -- "The first fault in this order counts": one code at most, and none where the call is accepted.
 --   refused-unique   : two codes that the order gives are the same
 --   refused-accepted : an order that refuses does not accept
+--   coded-here, coded-past, coded-end : the code of a call, test by test
+--   refused-some, coded-some, coded-none : codes that are not 0, and those that are; `numbered o` says that no fault has the code 0
 -- For every order of codes. Assumes nothing.
-use mathlib.Core.Path.{_≡_, sym, _∙_}
+use mathlib.Core.Path.{_≡_, refl, sym, _∙_}
 use mathlib.Core.Logic.{_⊎_, inl, inr}
-use Rattle.element.specs.Refusals.{Codes, no-more, code, Refused, Accepted}
+use mathlib.Core.Bool.{Bool, true, _&&_}
+use Prim.Native.Nat.{ℕ}
+use native.Mathlib.Nat as N
+use lib.Dec.{T, ltb, ltb→lt}
+use Rattle.algebra.proofs.Truth.{T-and}
+use Rattle.element.specs.Refusals.{Codes, no-more, code, Refused, Accepted, Coded, refused, accepted}
 
 pub refused-unique : {A : Type 0} (o : Codes A) (a b : A) → Refused o a → Refused o b → a ≡ b
 refused-unique no-more a b p q = absurd p
@@ -17,3 +24,33 @@ pub refused-accepted : {A : Type 0} (o : Codes A) (a : A) → Refused o a → Ac
 refused-accepted no-more a p q = p
 refused-accepted (code n F o) a (inl (f, e)) (g, h) = g f
 refused-accepted (code n F o) a (inr (f, e)) (g, h) = refused-accepted o a e h
+
+-- ---- test by test
+pub coded-here : {n : ℕ} {F : Type 0} {o : Codes ℕ} → F → Coded (code n F o) n
+coded-here f = refused (inl (f, refl))
+
+pub coded-past : {n c : ℕ} {F : Type 0} {o : Codes ℕ} → ¬ F → Coded o c → Coded (code n F o) c
+coded-past f (refused r) = refused (inr (f, r))
+coded-past f (accepted a e) = accepted (f, a) e
+
+pub coded-end : Coded no-more 0
+coded-end = accepted tt refl
+
+abbrev pub numbered : Codes ℕ → Bool
+numbered no-more = true
+numbered (code n F o) = ltb 0 n && numbered o
+
+pub coded-some : {o : Codes ℕ} {c : ℕ} → Coded o c → ¬ (c ≡ 0) → Refused o c
+coded-some (refused r) h = r
+coded-some (accepted a e) h = absurd (h e)
+
+pub refused-some : (o : Codes ℕ) (c : ℕ) → T (numbered o) → Refused o c → ¬ (c ≡ 0)
+refused-some no-more c t r e = r
+refused-some (code n F o) c t (inl (f, q)) e =
+    let h = ltb→lt 0 n (T-and (ltb 0 n) (numbered o) t .0) in
+    N.lt-irrefl 0 (rw (sym q ∙ e) at h)
+refused-some (code n F o) c t (inr (f, r)) e = refused-some o c (T-and (ltb 0 n) (numbered o) t .1) r e
+
+pub coded-none : {o : Codes ℕ} {c : ℕ} → Coded o c → T (numbered o) → c ≡ 0 → Accepted o
+coded-none {o} {c} (refused r) t e = absurd (refused-some o c t r e)
+coded-none (accepted a e) t f = a

@@ -2,6 +2,7 @@
 --   Codes A          == faults in their order, each with the answer that names it
 --   Refused o c      == c names the first fault of the order that is there
 --   Accepted o       == no fault of the order is there
+--   Coded o c        == c is the code of a call with this order: 0 when it is accepted
 --   NotKind n, AboveLevel k l, WrongLength n xs, Outside k xs, ShortRoom k room == the faults of an element
 --   controlCodes, boundsCodes, verdictCodes == the orders of the calls
 -- Definitions only.
@@ -26,6 +27,10 @@ abbrev pub Accepted : {A : Type 0} → Codes A → Type 0
 Accepted no-more = Unit {0}
 Accepted (code n F o) = ¬ F × Accepted o
 
+pub data Coded (o : Codes ℕ) (c : ℕ) : Type 0 where
+  refused : Refused o c → Coded o c
+  accepted : Accepted o → c ≡ 0 → Coded o c
+
 -- ---- the faults; n is the number given as the kind
 -- 2: "level limit above the kind's greatest"
 abbrev pub AboveLevel : Kind → ℕ → Type 0
@@ -36,8 +41,11 @@ abbrev pub WrongLength : ℕ → List ℤ → Type 0
 WrongLength n xs = ¬ (length xs ≡ 2 * n)
 
 -- 4: "a coordinate outside its limit"
+abbrev pub Beyond : ℕ → List ℤ → Type 0
+Beyond n xs = (i : ℕ) × (i < length xs) × (n < natAbs (at xs i))
+
 abbrev pub Outside : Kind → List ℤ → Type 0
-Outside k xs = (i : ℕ) × (i < length xs) × (coordinateLimit k < natAbs (at xs i))
+Outside k xs = Beyond (coordinateLimit k) xs
 
 -- 5: "buffer too short"
 abbrev pub ShortRoom : Kind → ℕ → Type 0

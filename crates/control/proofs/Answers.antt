@@ -1,0 +1,111 @@
+-- The answers of the calls, case by case of the code.
+--   kind-six, kind-quad : the kind after the tests of the code
+--   quad-count, six-values, quad-values : what it then has
+--   refuses, too-short, succeeds : of `control_values`: a refusal by the element, one by the buffer, and a success
+--   values-many, values-small : there are control values, and f64 holds them
+--   bounds-refused, bounds-told : of `solver_bounds`: a refusal and a success
+-- Assumes nothing.
+use mathlib.Core.Path.{_≡_, refl, sym, _∙_, ap, subst}
+use mathlib.Core.Bool.{Bool, true, false}
+use mathlib.Core.List.{List, _++_}
+use mathlib.Core.Logic.{_⊎_, inl, inr}
+use Prim.Native.Nat.{ℕ, _^_, _≤_, _<_}
+use borrow.Author.Tests.{eq-eqb, ne-eqb}
+use lib.Dec.{eqb, lit≤, lit<}
+use lib.IntN.{ℤ}
+use lib.ListN.{length, drop}
+use Rattle.algebra.specs.Within.{Each}
+use Rattle.algebra.proofs.Within.{each-≤, each-as}
+use Rattle.element.specs.Kinds.{Kind, six, eight, nine, kindOf, valueCount, sizeLimit}
+use Rattle.element.specs.Control.{values6, controlValues}
+use Rattle.element.specs.Refusals.{Codes, no-more, code, Refused, Accepted, Coded, ShortRoom, boundsCodes, controlCodes}
+use Rattle.element.proofs.Values.{values-length}
+use Rattle.element.proofs.Sizes.{values-size}
+use Rattle.element.proofs.Refusals.{coded-some}
+use Rattle.faults.proofs.Limits.{accepted-each}
+use Rattle.quad.specs.Points.{quadKind}
+use Rattle.control.specs.Calls.{NoValues, Values, BoundsOf, SolverBounds}
+use Rattle.control.specs.declared.Bounds.{Bounds}
+use Rattle.control.specs.declared.Bounded.the-variants.{Both, Code}
+
+pub kind-six : (n : ℕ) → n ≡ 6 → kindOf n ≡ six
+kind-six n e = rw e refl
+
+pub kind-quad : (n : ℕ) → ¬ (n ≡ 6) → kindOf n ≡ quadKind (eqb n 8)
+kind-quad n h = rw (ne-eqb n 6 h) refl
+
+pub quad-count : (n : ℕ) → ¬ (n ≡ 6) → 16 ≡ valueCount (kindOf n)
+quad-count n h = rw (kind-quad n h) (either (eqb n 8))
+  where
+    either : (b : Bool) → 16 ≡ valueCount (quadKind b)
+    either true = refl
+    either false = refl
+
+pub six-values : (n : ℕ) (xs : List ℤ) → n ≡ 6 → values6 xs ≡ controlValues (kindOf n) xs
+unfolding controlValues
+six-values n xs e = rw (kind-six n e) refl
+
+pub quad-values : (n : ℕ) (xs : List ℤ) → ¬ (n ≡ 6) → controlValues (quadKind (eqb n 8)) xs ≡ controlValues (kindOf n) xs
+quad-values n xs h = rw (kind-quad n h) refl
+
+-- the order of `control_values` goes on where that of the bounds ends
+module _ (n : ℕ) (xs before : List ℤ) where
+  earlier : (c : ℕ) → Refused (boundsCodes n xs) c → Refused (controlCodes n xs (length before)) c
+  earlier c (inl f) = inl f
+  earlier c (inr (f, inl g)) = inr (f, inl g)
+  earlier c (inr (f, inr (g, inl h))) = inr (f, inr (g, inl h))
+  earlier c (inr (f, inr (g, inr (h, none)))) = absurd none
+
+  pub refuses : (c : ℕ) → Coded (boundsCodes n xs) c → ¬ (c ≡ 0) → NoValues n xs before c 0 before
+  refuses c p h = record { refused = earlier c (coded-some p h); no-count = refl; untouched = refl }
+
+  pub too-short : Accepted (boundsCodes n xs) → ShortRoom (kindOf n) (length before) → NoValues n xs before 5 0 before
+  too-short (f, (g, (h, none))) s =
+      record { refused = inr (f, inr (g, inr (h, inl (s, refl)))); no-count = refl; untouched = refl }
+
+  pub succeeds : {values after : List ℤ} {count : ℕ}
+      → Accepted (boundsCodes n xs)
+      → count ≡ valueCount (kindOf n)
+      → ¬ ShortRoom (kindOf n) (length before)
+      → values ≡ controlValues (kindOf n) xs
+      → after ≡ values ++ drop (length values) before
+      → Values n xs before 0 count after
+  succeeds (f, (g, (h, none))) m s e q =
+      record {
+        accepted = (f, (g, (h, (s, tt))));
+        no-code = refl;
+        many = m;
+        filled = q
+            ∙ ap (λ (l : List ℤ). l ++ drop (length l) before) e
+            ∙ ap (λ (m : ℕ). controlValues (kindOf n) xs ++ drop m before) (values-length (kindOf n) xs);
+      }
+
+-- ---- bounds
+size-small : (k : Kind) → sizeLimit k 0 ≤ 2 ^ 53
+size-small six = lit≤ tt
+size-small eight = lit≤ tt
+size-small nine = lit≤ tt
+
+pub values-small : (n : ℕ) (xs : List ℤ) {values : List ℤ}
+    → Accepted (boundsCodes n xs)
+    → values ≡ controlValues (kindOf n) xs
+    → Each (2 ^ 53) values
+values-small n xs a e = each-as e (each-≤ (values-size (kindOf n) xs (accepted-each n xs a)) (size-small (kindOf n)))
+
+some : (k : Kind) → 0 < valueCount k
+some six = lit< tt
+some eight = lit< tt
+some nine = lit< tt
+
+pub values-many : (n : ℕ) (xs : List ℤ) {values : List ℤ} → values ≡ controlValues (kindOf n) xs → 0 < length values
+values-many n xs e = rw e (rw (values-length (kindOf n) xs) (some (kindOf n)))
+
+pub bounds-refused : (n : ℕ) (xs : List ℤ) (c : ℕ) → Coded (boundsCodes n xs) c → ¬ (c ≡ 0) → SolverBounds n xs (Code c)
+bounds-refused n xs c p h = inl (record { refused = coded-some p h })
+
+pub bounds-told : (n : ℕ) (xs : List ℤ) {values : List ℤ} {b : Bounds}
+    → Accepted (boundsCodes n xs)
+    → values ≡ controlValues (kindOf n) xs
+    → BoundsOf values b
+    → SolverBounds n xs (Both b)
+bounds-told n xs {values} {b} a e p = inr (record { accepted = a; told = tt; bounds = subst (λ v. BoundsOf v b) e p })

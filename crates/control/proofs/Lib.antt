@@ -1,0 +1,5 @@
+pub mod Answers
+pub mod Outcomes
+pub mod Running
+pub mod Shut
+pub mod Whole

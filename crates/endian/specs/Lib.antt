@@ -1,0 +1,2 @@
+-- What numbers in bytes mean.
+pub mod Numbers

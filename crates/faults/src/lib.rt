@@ -1,0 +1,53 @@
+// The faults of an element that every call tests: its kind (1), the length of its coordinate list (3), its limit (4).
+use points::within;
+ghost use mathlib.Core.Path.{_≡_};
+ghost use mathlib.Core.Bool.{true, false};
+ghost use Rattle.element.specs.Kinds.{NotKind, kindOf, coordinateLimit};
+ghost use Rattle.element.specs.Refusals.{no-more, Coded, elementCodes, boundsCodes};
+
+// Whether there is a kind of that many nodes.
+pub fn known(kind: u8) -> bool
+    ensures yes { λ r. ⌜ (r ≡ true → ¬ NotKind kind) ⌝ }
+    ensures no { λ r. ⌜ (r ≡ false → NotKind kind) ⌝ }
+{
+    if kind == 6 {
+        return true;
+    }
+    if kind == 8 {
+        return true;
+    }
+    kind == 9
+}
+
+// The coordinate limit of the kind.
+fn coordinate_limit(kind: u8) -> u32
+    ensures { λ r. ⌜ r ≡ coordinateLimit (kindOf kind) ⌝ }
+{
+    if kind == 6 {
+        return 65536;
+    }
+    2048
+}
+
+// Code 3 or 4, or 0.
+pub fn list_code(kind: u8, coords: &[i32]) -> u8
+    ensures { λ r. ⌜ Coded (elementCodes kind (now (coords .entry)) no-more) r ⌝ }
+{
+    if coords.len() != 2 * (kind as usize) {
+        return 3;
+    }
+    if !within(coords, coordinate_limit(kind)) {
+        return 4;
+    }
+    0
+}
+
+// Code 1, 3 or 4, or 0.
+pub fn element_code(kind: u8, coords: &[i32]) -> u8
+    ensures { λ r. ⌜ Coded (boundsCodes kind (now (coords .entry))) r ⌝ }
+{
+    if !known(kind) {
+        return 1;
+    }
+    list_code(kind, coords)
+}

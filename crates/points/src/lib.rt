@@ -1,0 +1,104 @@
+// Coordinates as numbers of 64 bits, the test against a limit, and determinants of differences.
+ghost use mathlib.Core.Path.{_≡_};
+ghost use mathlib.Core.Bool.{true, false};
+ghost use mathlib.Core.List.{[], _∷_};
+ghost use Prim.Native.Nat.{_<_};
+ghost use lib.IntN.{_-ℤ_, _*ℤ_};
+ghost use lib.ListN.{length};
+ghost use Rattle.algebra.specs.Within.{Each};
+ghost use Rattle.element.specs.Control.{at};
+ghost use Rattle.element.specs.Refusals.{Beyond};
+ghost use Rattle.points.specs.Points as spec;
+
+// The coordinate at place k; past the end stands 0.
+pub fn coord(xs: &[i32], k: usize) -> i64
+    ensures { λ r. ⌜ r ≡ at (now (xs .entry)) k ⌝ }
+{
+    if k < xs.len() {
+        return xs[k] as i64;
+    }
+    0
+}
+
+// The place in the list of node k: from the gap on, nodes stand one earlier.
+fn place(gap: usize, k: usize) -> usize
+    requires { ⌜ 0 < gap ⌝ }
+    ensures { λ r. ⌜ r ≡ spec.place gap k ⌝ }
+{
+    if k < gap {
+        return k;
+    }
+    k - 1
+}
+
+// The first or the second coordinates of nine nodes.
+pub fn coordinates(xs: &[i32], gap: usize, axis: usize) -> [i64; 9]
+    requires { ⌜ (0 < gap) × (axis < 2) ⌝ }
+    ensures { λ r. ⌜ r ≡ spec.coordinates (now (xs .entry)) gap axis ⌝ }
+{
+    let mut c = [0; 9];
+    let mut k = 0;
+    while k < 9 {
+        let at = place(gap, k);
+        c[k] = coord(xs, 2 * at + axis);
+        k += 1;
+    }
+    c
+}
+
+// Whether all coordinates are within the limit in size.
+pub fn within(xs: &[i32], limit: u32) -> bool
+    ensures yes { λ r. ⌜ (r ≡ true → Each limit (now (xs .entry))) ⌝ }
+    ensures no { λ r. ⌜ (r ≡ false → Beyond limit (now (xs .entry))) ⌝ }
+{
+    let most = limit as i64;
+    let least = 0 - most;
+    let mut k = 0;
+    while k < xs.len() {
+        let x = coord(xs, k);
+        if most < x {
+            return false;
+        }
+        if x < least {
+            return false;
+        }
+        k += 1;
+    }
+    true
+}
+
+// The number at place k; past the end stands 0.
+pub fn pick(p: &[i64; 9], k: usize) -> i64
+    requires { ⌜ length (now p) ≡ 9 ⌝ }
+    ensures { λ r. ⌜ r ≡ at (now (p .entry)) k ⌝ }
+{
+    if k < 9 {
+        return p[k];
+    }
+    0
+}
+
+// The difference from the point a to the point b, along one coordinate.
+fn step(p: &[i64; 9], a: usize, b: usize) -> i64
+    requires { ⌜ spec.Nine 393216 (now p) ⌝ }
+    ensures { λ r. ⌜ r ≡ spec.step (now (p .entry)) a b ⌝ }
+{
+    pick(p, b) - pick(p, a)
+}
+
+// The determinant of two vectors, (a, b) and (c, d).
+fn det(a: i64, b: i64, c: i64, d: i64) -> i64
+    requires { ⌜ Each 786432 (a ∷ b ∷ c ∷ d ∷ []) ⌝ }
+    ensures { λ r. ⌜ r ≡ a *ℤ d -ℤ b *ℤ c ⌝ }
+{
+    a * d - b * c
+}
+
+// The determinant of the differences from a to b and from c to d, of the points with the coordinates x and y.
+pub fn across(x: &[i64; 9], y: &[i64; 9], a: usize, b: usize, c: usize, d: usize) -> i64
+    requires first { ⌜ spec.Nine 393216 (now x) ⌝ }
+    requires second { ⌜ spec.Nine 393216 (now y) ⌝ }
+    ensures { λ r. ⌜ r ≡ spec.across (now (x .entry)) (now (y .entry)) a b c d ⌝ }
+{
+    det(step(x, a, b), step(y, a, b), step(x, c, d), step(y, c, d))
+}

@@ -1,0 +1,4 @@
+pub mod Choose
+pub mod Formula
+pub mod Points
+pub mod Sums

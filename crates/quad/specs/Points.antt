@@ -1,0 +1,53 @@
+-- What the code of a quad keeps on the way to its control values. A list n has the nodes' numbers along one coordinate; nodes and
+-- points stand in rows, ij at i + 3j.
+--   quadKind b        == eight nodes if b, else nine
+--   gap b             == where the nodes have a gap; some number stands for the missing node
+--   edge n m a b      == the fourfold control point of the edge from a to b with the middle m
+--   four n a b c d    == a sum of four nodes
+--   centre n b        == the fourfold control point 11
+--   points9 n b       == the nine fourfold control points
+--   grid u v i j      == the point ij, from the points u along x and v along y
+--   part u v I J i1 j2 == the terms of value (I, J) with these i1 and j2
+--   combine9 u v      == the control values
+-- Definitions only.
+use mathlib.Core.Bool.{Bool, cond}
+use mathlib.Core.List.{List, [], _∷_}
+use Prim.Native.Nat.{ℕ, _+_, _*_, _/_, _%_}
+use lib.IntN.{ℤ, pos, _+ℤ_, _-ℤ_, _*ℤ_}
+use Rattle.algebra.specs.Fill.{listTo}
+use Rattle.element.specs.Kinds.{Kind, eight, nine}
+use Rattle.element.specs.Plane.{Vec, sum}
+use Rattle.element.specs.Control.{at, term, value}
+use Rattle.points.specs.Points.{point}
+
+abbrev pub quadKind : Bool → Kind
+quadKind b = cond b eight nine
+
+-- "Kind 8 omits 11", which is node 4; from the next on, nodes stand one earlier
+abbrev pub gap : Bool → ℕ
+gap b = cond b 5 9
+
+-- "corner 4A; edge 8M - 2A - 2B; centre 16·A11 - 4·(sum of edge nodes) + (sum of corners)"
+abbrev pub edge : List ℤ → ℕ → ℕ → ℕ → ℤ
+edge n m a b = pos 8 *ℤ at n m -ℤ pos 2 *ℤ at n a -ℤ pos 2 *ℤ at n b
+
+abbrev pub four : List ℤ → ℕ → ℕ → ℕ → ℕ → ℤ
+four n a b c d = at n a +ℤ at n b +ℤ at n c +ℤ at n d
+
+abbrev pub centre : List ℤ → Bool → ℤ
+centre n b = cond b (four n 0 2 6 8) (pos 16 *ℤ at n 4 -ℤ pos 4 *ℤ four n 1 3 5 7 +ℤ four n 0 2 6 8)
+
+abbrev pub points9 : List ℤ → Bool → List ℤ
+points9 n b =
+    (pos 4 *ℤ at n 0) ∷ edge n 1 0 2 ∷ (pos 4 *ℤ at n 2)
+    ∷ edge n 3 0 6 ∷ centre n b ∷ edge n 5 2 8
+    ∷ (pos 4 *ℤ at n 6) ∷ edge n 7 6 8 ∷ (pos 4 *ℤ at n 8) ∷ []
+
+abbrev pub grid : List ℤ → List ℤ → ℕ → ℕ → Vec
+grid u v i j = point u v (i + 3 * j)
+
+abbrev pub part : List ℤ → List ℤ → ℕ → ℕ → ℕ → ℕ → ℤ
+part u v I J i1 j2 = sum 3 (λ i2. sum 3 (λ j1. term (grid u v) I J i1 i2 j1 j2))
+
+abbrev pub combine9 : List ℤ → List ℤ → List ℤ
+combine9 u v = listTo 16 (λ k. value (grid u v) (k % 4) (k / 4))

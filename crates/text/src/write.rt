@@ -1,0 +1,63 @@
+// Writing text into a lent buffer. Each function takes every place and every buffer: where there is room it writes the whole text, and
+// answers the place after it.
+ghost use mathlib.Core.Path.{_≡_};
+ghost use mathlib.Core.List.{[], _∷_};
+ghost use lib.IntN.{natAbs};
+ghost use Rattle.text.specs.Writing.{Wrote, decimal, integer as spelled};
+
+// One byte.
+pub fn put(out: &mut [u8], at: usize, b: u8) -> usize
+    ensures { λ r. ⌜ Wrote (now (out .entry)) at (b ∷ []) (now (out .exit)) r ⌝ }
+{
+    if at < out.len() {
+        out[at] = b;
+        return at + 1;
+    }
+    at
+}
+
+// A text.
+pub fn word(out: &mut [u8], from: usize, text: &[u8]) -> usize
+    ensures { λ r. ⌜ Wrote (now (out .entry)) from (now (text .entry)) (now (out .exit)) r ⌝ }
+{
+    let mut at = from;
+    let mut k = 0;
+    while k < text.len() {
+        at = put(out, at, text[k]);
+        k += 1;
+    }
+    at
+}
+
+// A number in decimal.
+pub fn natural(out: &mut [u8], at: usize, n: u64) -> usize
+    ensures { λ r. ⌜ Wrote (now (out .entry)) at (decimal n) (now (out .exit)) r ⌝ }
+{
+    if n < 10 {
+        return put(out, at, 48 + n as u8);
+    }
+    let end = natural(out, at, n / 10);
+    put(out, end, 48 + (n % 10) as u8)
+}
+
+// The size of a number.
+fn size(z: i64) -> u64
+    ensures { λ r. ⌜ r ≡ natAbs z ⌝ }
+{
+    if z < 0 {
+        return (-1 - z) as u64 + 1;
+    }
+    z as u64
+}
+
+// A whole number in decimal, with a minus where it is below zero.
+pub fn integer(out: &mut [u8], at: usize, z: i64) -> usize
+    ensures { λ r. ⌜ Wrote (now (out .entry)) at (spelled z) (now (out .exit)) r ⌝ }
+{
+    let n = size(z);
+    if z < 0 {
+        let end = put(out, at, 45);
+        return natural(out, end, n);
+    }
+    natural(out, at, n)
+}
