@@ -154,7 +154,7 @@ weigh-size n (x ∷ r) f h =
     within-≤ (within-+ (within-* (within-pos x) (h 0)) (weigh-size n r (λ i. f (suc i)) (λ i. h (suc i))))
     (N.le-of-eq (sym (N.add-mul x (total r) n)))
 
-rowsAdd-at : (t : ℕ) (Q : List Row) → T (rowsAdd t Q) → (k : ℕ) → total (getD Q k []) ≤ t
+pub rowsAdd-at : (t : ℕ) (Q : List Row) → T (rowsAdd t Q) → (k : ℕ) → total (getD Q k []) ≤ t
 rowsAdd-at t [] a k = omega arith
 rowsAdd-at t (r ∷ Q) a zero = N.le-of-eq (eqb→eq (total r) t (T-and (eqb (total r) t) (rowsAdd t Q) a .0))
 rowsAdd-at t (r ∷ Q) a (suc k) = rowsAdd-at t Q (T-and (eqb (total r) t) (rowsAdd t Q) a .1) k

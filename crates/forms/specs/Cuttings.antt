@@ -1,6 +1,7 @@
 -- Cutting a cell into quarters (01: "A cell that does not pass is split in four"), for any kind of cell with a test and
 -- four quarters.
 --   Four        == which of the four quarters
+--   fourOf n    == quarter n, counted from 0
 --   inFour f    == the test f holds of all four
 --   Cutting     == a cell that is kept, or cut with a cutting of each quarter
 --   leaves, depth == how many cells a cutting keeps, and how many cuts lie above the deepest
@@ -19,6 +20,12 @@ use lib.Dec.{T}
 
 pub data Four : Type 0 where
   first second third fourth : Four
+
+abbrev pub fourOf : ℕ → Four
+fourOf zero = first
+fourOf (suc zero) = second
+fourOf (suc (suc zero)) = third
+fourOf (suc (suc (suc n))) = fourth
 
 -- a test of all four
 abbrev pub inFour : (Four → Bool) → Bool

@@ -1,0 +1,3 @@
+-- Steps of the proofs, here and of the cuts.
+pub mod Parts
+pub mod Quarters

@@ -1,0 +1,2 @@
+-- What a sum by a row of weights needs.
+pub mod Room

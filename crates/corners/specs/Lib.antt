@@ -1,0 +1,2 @@
+-- What the code reports of bad points.
+pub mod First

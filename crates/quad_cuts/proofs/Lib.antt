@@ -1,0 +1,2 @@
+-- Laws of the quarters of a quad.
+pub mod Halves

@@ -1,0 +1,2 @@
+-- The corners of a triangle cell.
+pub mod Corners
