@@ -1,5 +1,5 @@
 -- What the tests of a kind tell.
---   limit-quad   : what is not a triangle has the limit of quads
+--   limit-quad, level-quad : what is not a triangle has the limits of quads
 --   each-inside, inside-each : coordinates that are all within a limit are not beyond it, and the other way round
 --   accepted-each : an accepted element has its coordinates within its limit
 -- Assumes nothing.
@@ -15,7 +15,7 @@ use lib.IntN.{ℤ, natAbs}
 use lib.ListN.{length}
 use Rattle.algebra.specs.Within.{Each}
 use Rattle.algebra.proofs.Within.{each-of}
-use Rattle.element.specs.Kinds.{six, eight, nine, kindOf, coordinateLimit}
+use Rattle.element.specs.Kinds.{six, eight, nine, kindOf, coordinateLimit, greatestLevel}
 use Rattle.element.specs.Control.{at}
 use Rattle.element.specs.Refusals.{Accepted, Beyond, boundsCodes}
 
@@ -23,6 +23,13 @@ pub limit-quad : (n : ℕ) → ¬ (n ≡ 6) → 2048 ≡ coordinateLimit (kindOf
 limit-quad n h = rw (ne-eqb n 6 h) (either (eqb n 8))
   where
     either : (b : Bool) → 2048 ≡ coordinateLimit (cond b eight nine)
+    either true = refl
+    either false = refl
+
+pub level-quad : (n : ℕ) → ¬ (n ≡ 6) → 4 ≡ greatestLevel (kindOf n)
+level-quad n h = rw (ne-eqb n 6 h) (either (eqb n 8))
+  where
+    either : (b : Bool) → 4 ≡ greatestLevel (cond b eight nine)
     either true = refl
     either false = refl
 

@@ -1,9 +1,9 @@
-// The faults of an element that every call tests: its kind (1), the length of its coordinate list (3), its limit (4).
+// The faults of an element that the calls test: its kind (1), its level limit (2), the length of its coordinate list (3), its limit (4).
 use points::within;
 ghost use mathlib.Core.Path.{_≡_};
 ghost use mathlib.Core.Bool.{true, false};
-ghost use Rattle.element.specs.Kinds.{NotKind, kindOf, coordinateLimit};
-ghost use Rattle.element.specs.Refusals.{no-more, Coded, elementCodes, boundsCodes};
+ghost use Rattle.element.specs.Kinds.{NotKind, kindOf, coordinateLimit, greatestLevel};
+ghost use Rattle.element.specs.Refusals.{no-more, Coded, elementCodes, boundsCodes, verdictCodes};
 
 // Whether there is a kind of that many nodes.
 pub fn known(kind: u8) -> bool
@@ -20,13 +20,23 @@ pub fn known(kind: u8) -> bool
 }
 
 // The coordinate limit of the kind.
-fn coordinate_limit(kind: u8) -> u32
+pub fn coordinate_limit(kind: u8) -> u32
     ensures { λ r. ⌜ r ≡ coordinateLimit (kindOf kind) ⌝ }
 {
     if kind == 6 {
         return 65536;
     }
     2048
+}
+
+// The greatest level of the kind.
+pub fn greatest_level(kind: u8) -> u8
+    ensures { λ r. ⌜ r ≡ greatestLevel (kindOf kind) ⌝ }
+{
+    if kind == 6 {
+        return 10;
+    }
+    4
 }
 
 // Code 3 or 4, or 0.
@@ -48,6 +58,19 @@ pub fn element_code(kind: u8, coords: &[i32]) -> u8
 {
     if !known(kind) {
         return 1;
+    }
+    list_code(kind, coords)
+}
+
+// Code 1, 2, 3 or 4, or 0.
+pub fn verdict_code(kind: u8, limit: u8, coords: &[i32]) -> u8
+    ensures { λ r. ⌜ Coded (verdictCodes kind limit (now (coords .entry))) r ⌝ }
+{
+    if !known(kind) {
+        return 1;
+    }
+    if greatest_level(kind) < limit {
+        return 2;
     }
     list_code(kind, coords)
 }

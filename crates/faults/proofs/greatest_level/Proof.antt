@@ -1,0 +1,16 @@
+-- `faults::greatest_level` meets its contract: quads have one greatest level.
+use mathlib.Core.Path.{refl}
+use Rattle.faults.proofs.Limits.{level-quad}
+use Rattle.faults.proofs.greatest_level.Statement.{statement}
+use Rattle.faults.proofs.greatest_level.Tie as tie
+
+-- src/lib.rt:27:9
+returns : tie.Need-returns
+returns c = rw (c .if1 .taken) refl
+
+-- src/lib.rt:23:1
+returns-2 : tie.Need-returns-2
+returns-2 c = level-quad (c .before .args .kind) (c .if1 .left)
+
+pub greatest-level-spec : {M : Type 1} → statement M
+greatest-level-spec = tie.close (tie.spec returns returns-2)

@@ -1,0 +1,2 @@
+-- The walk over a quad's cells.
+pub mod Walks

@@ -1,0 +1,2 @@
+-- What a walk answers, and its steps.
+pub mod Steps

@@ -1,0 +1,2 @@
+-- The walk over a triangle's cells.
+pub mod Walks

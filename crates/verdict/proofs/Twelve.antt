@@ -1,0 +1,88 @@
+-- The twelve elements of 01 as answers of the call `verdict`: it accepts each of them, and answers what 01 lists, in every field.
+--   accepted-kind    : an element of a kind is accepted, by tests that compute
+--   twelve-called    : the claim, for the whole list
+-- Assumes nothing.
+use mathlib.Core.Path.{_≡_, refl, sym, subst}
+use mathlib.Core.Bool.{Bool, true, _&&_}
+use mathlib.Core.List.{List, [], _∷_}
+use mathlib.Core.Logic.{inr}
+use Prim.Native.Nat.{ℕ, zero, suc, _*_, _≤_, zero-le}
+use native.Mathlib.Nat as N
+use lib.Dec.{T, leb, eqb, leb→le, eqb→eq}
+use lib.IntN.{ℤ, natAbs}
+use lib.ListN.{length}
+use Rattle.algebra.proofs.Truth.{T-and}
+use Rattle.element.specs.Kinds.{Kind, six, eight, nine, nodeCount, kindOf, NotKind, coordinateLimit, greatestLevel}
+use Rattle.element.specs.Control.{at}
+use Rattle.element.specs.Refusals.{Accepted, AboveLevel, WrongLength, Outside, verdictCodes}
+use Rattle.judge.specs.Verdict.{Judges}
+use Rattle.judge.specs.Elements.{subject}
+use Rattle.judge.specs.Twelve.{Row, twelve, Holds, AllHold}
+use Rattle.judge.proofs.Twelve.{twelve-hold}
+use Rattle.verdict.specs.Calls.{given, VerdictOf}
+use Rattle.verdict.specs.declared.Judged.{Judged}
+use Rattle.verdict.proofs.Outcomes.{verdict-unique}
+
+-- ---- acceptance, as a test
+abbrev allWithin : ℕ → List ℤ → Bool
+allWithin n [] = true
+allWithin n (z ∷ xs) = leb (natAbs z) n && allWithin n xs
+
+within-at : (n : ℕ) (xs : List ℤ) → T (allWithin n xs) → (i : ℕ) → natAbs (at xs i) ≤ n
+within-at n [] t i = zero-le
+within-at n (z ∷ xs) t zero = leb→le (natAbs z) n (T-and (leb (natAbs z) n) (allWithin n xs) t .0)
+within-at n (z ∷ xs) t (suc i) = within-at n xs (T-and (leb (natAbs z) n) (allWithin n xs) t .1) i
+
+abbrev accepts : Kind → ℕ → List ℤ → Bool
+accepts k l xs = leb l (greatestLevel k) && (eqb (length xs) (2 * nodeCount k) && allWithin (coordinateLimit k) xs)
+
+kind-of-nodes : (k : Kind) → kindOf (nodeCount k) ≡ k
+kind-of-nodes six = refl
+kind-of-nodes eight = refl
+kind-of-nodes nine = refl
+
+is-kind : (k : Kind) → ¬ NotKind (nodeCount k)
+is-kind six f = f .0 refl
+is-kind eight f = f .1 refl
+is-kind nine f = f .2 refl
+
+pub accepted-kind : (k : Kind) (l : ℕ) (xs : List ℤ) → T (accepts k l xs) → Accepted (verdictCodes (nodeCount k) l xs)
+accepted-kind k l xs t =
+    let (a, u) = T-and (leb l (greatestLevel k)) (eqb (length xs) (2 * nodeCount k) && allWithin (coordinateLimit k) xs) t in
+    let (b, c) = T-and (eqb (length xs) (2 * nodeCount k)) (allWithin (coordinateLimit k) xs) u in
+    let level : ¬ AboveLevel k l = λ h. N.not-le-of-lt h (leb→le l (greatestLevel k) a) in
+    let many : ¬ WrongLength (nodeCount k) xs = λ f. f (eqb→eq (length xs) (2 * nodeCount k) b) in
+    let inside : ¬ Outside k xs = λ f. N.not-le-of-lt (f .2) (within-at (coordinateLimit k) xs c (f .0)) in
+    rw (kind-of-nodes k)
+    (is-kind k, (level, (many, (inside, tt))))
+
+-- ---- the list
+abbrev pub Called : Row → Type 0
+Called r = (s : Judged) → VerdictOf (nodeCount (r .kind)) (r .limit) (r .coords) s → s ≡ given (r .answer)
+
+abbrev pub AllCalled : List Row → Type 0
+AllCalled [] = Unit {0}
+AllCalled (r ∷ rs) = Called r × AllCalled rs
+
+abbrev allAccepted : List Row → Bool
+allAccepted [] = true
+allAccepted (r ∷ rs) = accepts (r .kind) (r .limit) (r .coords) && allAccepted rs
+
+called : (r : Row) → Holds r → T (accepts (r .kind) (r .limit) (r .coords)) → Called r
+called r h t s v = verdict-unique (nodeCount (r .kind)) (r .limit) (r .coords) s (given (r .answer)) v
+    (inr
+    (record {
+      accepted = accepted-kind (r .kind) (r .limit) (r .coords) t;
+      answer = r .answer;
+      judges = subst (λ (k : Kind). Judges (subject k (r .coords)) (r .limit) (r .answer)) (sym (kind-of-nodes (r .kind))) (h .1);
+      told = refl;
+    }))
+
+all-called : (rs : List Row) → AllHold rs → T (allAccepted rs) → AllCalled rs
+all-called [] h t = tt
+all-called (r ∷ rs) h t =
+    let (a, b) = T-and (accepts (r .kind) (r .limit) (r .coords)) (allAccepted rs) t in
+    (called r (h .0) a, all-called rs (h .1) b)
+
+pub twelve-called : AllCalled twelve
+twelve-called = all-called twelve twelve-hold tt

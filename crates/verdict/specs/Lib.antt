@@ -1,0 +1,2 @@
+-- The call `verdict`.
+pub mod Calls

@@ -1,0 +1,1 @@
+// The law of walks over cells.
