@@ -3,7 +3,7 @@
 --   puts-over    : byte by byte is over the part
 --   over-one     : one byte
 --   over-more    : one run of bytes behind another
---   length-over  : the list keeps its length
+--   length-puts, length-over : the list keeps its length
 -- Assumes nothing.
 use mathlib.Core.Path.{_≡_, refl, sym, ap, _∙_}
 use mathlib.Core.List.{List, [], _∷_, _++_, append-assoc}
@@ -25,7 +25,7 @@ puts-sets (b ∷ v) l at = puts-sets v (set l at b) (at + 1) ∙ ap (λ (i : ℕ
 pub puts-over : (v l : List ℕ) (at : ℕ) → at + length v ≤ length l → puts l at v ≡ over l at v
 puts-over v l at h = puts-sets v l at ∙ sets-eq v l at h ∙ append-assoc (take at l) v (drop (at + length v) l)
 
-length-puts : (v l : List ℕ) (at : ℕ) → length (puts l at v) ≡ length l
+pub length-puts : (v l : List ℕ) (at : ℕ) → length (puts l at v) ≡ length l
 length-puts [] l at = refl
 length-puts (b ∷ v) l at = length-puts v (set l at b) (at + 1) ∙ length-set l at b
 

@@ -1,0 +1,43 @@
+-- A record to append, and the order of codes (01, "Codes and what they leave": "Append: 5 for `used`, block, then 1, 2, 3, 4, 10, 11,
+-- 5 for room. Starting a block: 5").
+--   padded xs      == nine pairs: the coordinates xs, and then zeros
+--   newRecord id n level xs == the record of what is given
+--   newCodes l room id == codes 10, 11 and 5: over the block l with so many bytes behind it
+--   roomCodes l room id n level xs == the orders of the block and of the record
+--   appendCodes b used id n level xs == the order of `append_record`
+--   startCodes b   == that of `start_block`
+-- n is the number given as the kind, level the level limit, b the buffer's content.
+-- Definitions only.
+use mathlib.Core.List.{List, _++_}
+use Prim.Native.Nat.{ℕ, _-_, _≤_, _<_}
+use lib.IntN.{ℤ, pos}
+use lib.ListN.{length, take, replicate}
+use Rattle.element.specs.Refusals.{Codes, no-more, code, verdictCodes}
+use Rattle.record.specs.declared.Record.{Record}
+use Rattle.record.specs.Faults.{TooLow}
+use Rattle.block.specs.Block.{countOf}
+use Rattle.block.specs.Faults.{Fault, _then_, naming, lowest, blockCodes}
+
+-- "pairs not used by the kind are zero"
+abbrev pub padded : List ℤ → List ℤ
+padded xs = xs ++ replicate (18 - length xs) (pos 0)
+
+abbrev pub newRecord : ℕ → ℕ → ℕ → List ℤ → Record
+newRecord id n level xs = record { id = id; kind = n; limit = level; coords = padded xs }
+
+-- 10: "id not above the one before"; 11: "append to a block of 800"; 5: "buffer too short"
+abbrev pub newCodes : List ℕ → ℕ → ℕ → Codes ℕ
+newCodes l room id = code 10 (TooLow (lowest l (countOf l)) id) (code 11 (800 ≤ countOf l) (code 5 (room < 80) no-more))
+
+abbrev pub roomCodes : List ℕ → ℕ → ℕ → ℕ → ℕ → List ℤ → Codes Fault
+roomCodes l room id n level xs = blockCodes l then naming 0 (verdictCodes n level xs then newCodes l room id)
+
+-- 5: "`used` beyond it"
+abbrev pub usedCodes : List ℕ → ℕ → Codes ℕ
+usedCodes b used = code 5 (length b < used) no-more
+
+abbrev pub appendCodes : List ℕ → ℕ → ℕ → ℕ → ℕ → List ℤ → Codes Fault
+appendCodes b used id n level xs = naming 0 (usedCodes b used) then roomCodes (take used b) (length b - used) id n level xs
+
+abbrev pub startCodes : List ℕ → Codes ℕ
+startCodes b = code 5 (length b < 9) no-more

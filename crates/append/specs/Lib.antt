@@ -1,0 +1,3 @@
+-- What a record that is appended is, when it is refused, and what the calls that write a block answer and leave.
+pub mod Append
+pub mod Calls

@@ -1,0 +1,56 @@
+-- What the calls answer over a block, and wrong programs that their contracts shut out.
+--   checked-block   : a block is accepted, with the count of its records: a check that refuses everything is shut out
+--   checked-only    : and bytes that are accepted are a block
+--   fetched-record, fetched-none : record k of a block, and none where k is not below the count
+--   fetched-rises   : two records differ: a fetch that gives record 0 each time is shut out
+-- Assumes nothing.
+use mathlib.Core.Path.{_≡_, refl, sym, ap}
+use mathlib.Core.List.{List}
+use mathlib.Core.Logic.{inl, inr}
+use Prim.Native.Nat.{ℕ, zero, suc, _≤_, _<_}
+use native.Mathlib.Nat as N
+use native.Mathlib.Omega.{arith}
+use native.Mathlib.Decide.{decLe}
+use lib.ListN.{length}
+use Rattle.endian.specs.Numbers.{Bytes}
+use Rattle.record.specs.declared.Record.{Record}
+use Rattle.record.specs.Record.{blank}
+use Rattle.block.specs.declared.Checked.{Checked}
+use Rattle.block.specs.declared.Fetched.{Fetched}
+use Rattle.block.specs.Block.{record-of, Holds}
+use Rattle.block.specs.Calls.{Checks, fetched, Fetches}
+use Rattle.block.proofs.Answers.{checks-unique, checks-counted, fetch-beyond, fetch-accepted, fetches-unique}
+use Rattle.block.proofs.Blocks.{block-count, held-record, holds-accepted, records-in, accepted-holds}
+
+pub checked-only : (l : List ℕ) (r : Checked) → Bytes l → Checks l r → r .code ≡ 0 → Holds l (records-in l)
+checked-only l r p c e = accepted-holds l p (checks-counted l r c e .accepted)
+
+module _ {l : List ℕ} {rs : List Record} (h : Holds l rs) where
+  pub checked-block : (r : Checked) → Checks l r → r ≡ record { code = 0; number = 0; count = length rs }
+  checked-block r c =
+      checks-unique l r (record { code = 0; number = 0; count = length rs }) c
+      (inr (record { accepted = holds-accepted h; answer = ap (λ (n : ℕ). record { code = 0; number = 0; count = n }) (sym (block-count h)) }))
+
+  pub fetched-record : (k : ℕ) → k < length rs → (r : Fetched) → Fetches l k r → r ≡ fetched 0 0 (record-of rs k)
+  fetched-record k i r f =
+      fetches-unique l k r (fetched 0 0 (record-of rs k)) f
+      (inr (record {
+        accepted = fetch-accepted l k (holds-accepted h) (rw (block-count h) i);
+        answer = ap (λ (q : Record). fetched 0 0 q) (sym (held-record h k i));
+      }))
+
+  pub fetched-none : (k : ℕ) → length rs ≤ k → (r : Fetched) → Fetches l k r → r ≡ fetched 12 0 blank
+  fetched-none k i r f =
+      fetches-unique l k r (fetched 12 0 blank) f
+      (inl (record { refused = fetch-beyond l k (holds-accepted h) (rw (block-count h) i); no-record = refl }))
+
+  rise-all : (j k : ℕ) → j < k → k < length rs → record-of rs j .id < record-of rs k .id
+  rise-all j zero q i = absurd (N.not-suc-le-zero q)
+  rise-all j (suc k) q i = go (decLe (suc j) k) (λ p. rise-all j k p (omega arith))
+    where
+      go : Dec (j < k) → (j < k → record-of rs j .id < record-of rs k .id) → record-of rs j .id < record-of rs (suc k) .id
+      go (yes p) f = N.lt-trans (f p) (h .rise k i)
+      go (no p) f = rw (let e : j ≡ k = omega arith in e) (h .rise k i)
+
+  pub fetched-rises : (j k : ℕ) → j < k → k < length rs → (r s : Fetched) → Fetches l j r → Fetches l k s → r .id < s .id
+  fetched-rises j k q i r s f g = rw (fetched-record j (N.lt-trans q i) r f, fetched-record k i s g) (rise-all j k q i)

@@ -1,0 +1,6 @@
+pub mod Orders
+pub mod Header
+pub mod Walk
+pub mod Answers
+pub mod Blocks
+pub mod Demands

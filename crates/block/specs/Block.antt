@@ -1,0 +1,47 @@
+-- An element block, by writing (01, "Element block": "Header of 9 bytes: mark CEL, version u16 = 1, count u32, at most 800. Then records
+-- of 80 bytes .. Ids rise strictly. Records count from 0").
+--   header n       == the nine bytes of a header with the count n
+--   recordsBytes rs, blockBytes rs == the records one behind the other, and the block of them
+--   record-of rs k == the record k of the list; past its end stands the record of zeros
+--   Holds l rs     == the bytes l are the block of the records rs
+--   countOf l      == the count that is read in a header
+--   place k        == where record k begins
+--   recordAt l k   == the record k that is read from the bytes l
+-- Definitions only.
+use mathlib.Core.Path.{_≡_}
+use mathlib.Core.List.{List, [], _∷_, _++_}
+use Prim.Native.Nat.{ℕ, suc, _+_, _*_, _≤_, _<_}
+use lib.ListN.{length, getD}
+use Rattle.endian.specs.Numbers.{bytes, number, part}
+use Rattle.record.specs.declared.Record.{Record}
+use Rattle.record.specs.Record.{WellFormed, recordBytes, readRecord, blank}
+
+-- ---- written; 67, 69 and 76 are the letters C, E and L
+abbrev pub header : ℕ → List ℕ
+header n = 67 ∷ 69 ∷ 76 ∷ (bytes 2 1 ++ bytes 4 n)
+
+abbrev pub recordsBytes : List Record → List ℕ
+recordsBytes [] = []
+recordsBytes (r ∷ rs) = recordBytes r ++ recordsBytes rs
+
+abbrev pub blockBytes : List Record → List ℕ
+blockBytes rs = header (length rs) ++ recordsBytes rs
+
+abbrev pub record-of : List Record → ℕ → Record
+record-of rs k = getD rs k blank
+
+pub record Holds (l : List ℕ) (rs : List Record) : Type 0 where
+  pub written : l ≡ blockBytes rs
+  pub few : length rs ≤ 800
+  pub formed : (k : ℕ) → k < length rs → WellFormed (record-of rs k)
+  pub rise : (k : ℕ) → suc k < length rs → record-of rs k .id < record-of rs (suc k) .id
+
+-- ---- read
+abbrev pub countOf : List ℕ → ℕ
+countOf l = number (part 5 4 l)
+
+abbrev pub place : ℕ → ℕ
+place k = 9 + 80 * k
+
+abbrev pub recordAt : List ℕ → ℕ → Record
+recordAt l k = readRecord l (place k)

@@ -1,0 +1,2 @@
+-- What a reader of a block answers.
+pub mod Steps

@@ -1,0 +1,63 @@
+-- What the tests of a stored record tell.
+--   known-small : a kind is at most 9
+--   known-level : and its level limit at most 10
+--   all-zero    : the two bytes and the unused pairs are zero: code 9 is not given
+--   each-zero   : numbers within 0 are 0
+--   not-not     : two numbers that are not different are the same
+-- Assumes nothing.
+use mathlib.Core.Path.{_≡_, refl, ap}
+use mathlib.Core.Bool.{Bool, true, false}
+use mathlib.Core.List.{List}
+use mathlib.Core.Logic.{inl, inr}
+use Prim.Native.Nat.{ℕ, _+_, _≤_}
+use native.Mathlib.Nat as N
+use native.Mathlib.Omega.{arith}
+use native.Mathlib.Decide.{decLe}
+use borrow.Author.Tests.{eqb-true, eqb-false}
+use lib.Dec.{eqb}
+use lib.IntN.{ℤ, pos, negsuc, natAbs}
+use lib.ListN.{getD}
+use Rattle.algebra.specs.Within.{Each}
+use Rattle.element.specs.Kinds.{Kind, six, eight, nine, NotKind, greatestLevel}
+use Rattle.element.specs.Refusals.{AboveLevel}
+use Rattle.faults.proofs.Limits.{each-inside}
+use Rattle.record.specs.Record.{unused, readRecord}
+use Rattle.record.specs.Faults.{NotZero}
+
+pub not-not : (m n : ℕ) → ¬ (¬ (m ≡ n)) → m ≡ n
+not-not m n f = go (eqb m n) (eqb-true m n) (eqb-false m n)
+  where
+    go : (b : Bool) → (b ≡ true → m ≡ n) → (b ≡ false → ¬ (m ≡ n)) → m ≡ n
+    go true p q = p refl
+    go false p q = absurd (f (q refl))
+
+pub known-small : (n : ℕ) → ¬ NotKind n → n ≤ 9
+known-small n f = go (decLe n 9)
+  where
+    go : Dec (n ≤ 9) → n ≤ 9
+    go (yes h) = h
+    go (no h) = absurd (f ((λ e. h (omega arith)), (λ e. h (omega arith)), λ e. h (omega arith)))
+
+pub known-level : (k : Kind) (n : ℕ) → ¬ AboveLevel k n → n ≤ 10
+known-level k n f = N.le-trans (N.le-of-suc-le-suc (N.lt-of-not-le f)) (most k)
+  where
+    most : (k : Kind) → greatestLevel k ≤ 10
+    most six = omega arith
+    most eight = omega arith
+    most nine = omega arith
+
+pub all-zero : (l : List ℕ) (at : ℕ)
+    → getD l (at + 6) 0 ≡ 0
+    → getD l (at + 7) 0 ≡ 0
+    → Each 0 (unused (readRecord l at))
+    → ¬ NotZero l at
+all-zero l at a b p (inl f) = f a
+all-zero l at a b p (inr (inl f)) = f b
+all-zero l at a b p (inr (inr f)) = each-inside p f
+
+pub each-zero : {l : List ℤ} → Each 0 l → (k : ℕ) → getD l k (pos 0) ≡ pos 0
+each-zero {l} p k = none (getD l k (pos 0)) (p .at k .size)
+  where
+    none : (z : ℤ) → natAbs z ≤ 0 → z ≡ pos 0
+    none (pos n) h = ap pos (let e : n ≡ 0 = omega arith in e)
+    none (negsuc n) h = absurd (omega arith)
