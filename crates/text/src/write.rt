@@ -61,3 +61,30 @@ pub fn integer(out: &mut [u8], at: usize, z: i64) -> usize
     }
     natural(out, at, n)
 }
+
+// The hex digit of a number below 16.
+fn hex_digit(n: u8) -> u8 {
+    if n < 10 {
+        return 48 + n;
+    }
+    if n < 16 {
+        return 87 + n;
+    }
+    63
+}
+
+// Bytes in hex, two digits each; `-` for none.
+pub fn hex(out: &mut [u8], from: usize, bytes: &[u8]) -> usize {
+    if bytes.len() == 0 {
+        return put(out, from, 45);
+    }
+    let mut at = from;
+    let mut k = 0;
+    while k < bytes.len() {
+        let b = bytes[k];
+        at = put(out, at, hex_digit(b / 16));
+        at = put(out, at, hex_digit(b % 16));
+        k += 1;
+    }
+    at
+}

@@ -1,0 +1,47 @@
+-- How long a line of the list is at most: numbers of 32 bits have at most ten digits, and no word is longer.
+--   Short p          == the piece p has at most ten characters
+--   short-number     : a number of 32 bits is short
+--   short-line       : a line of short pieces has at most eleven characters for each
+--   verdict-line-short, first-line-short, refused-line-short : so at most 77, or 33
+-- Assumes nothing.
+use mathlib.Core.List.{List, [], _∷_, _++_}
+use Prim.Native.Nat.{ℕ, _+_, _*_, _≤_, _<_}
+use native.Mathlib.Omega.{arith}
+use lib.ListN.{length, length-append}
+use Rattle.text.specs.Writing.{decimal}
+use Rattle.text.proofs.Decimals.{decimal-few}
+use Rattle.lines.specs.Words.{Piece, word, number, spelt, after, line, firstLine, verdictLine, refusedWord, refusedLine}
+
+pub record Short (p : Piece) : Type 0 where
+  pub few : length (spelt p) ≤ 10
+
+abbrev pub Shorts : List Piece → Type 0
+Shorts [] = Unit {0}
+Shorts (p ∷ ps) = Short p × Shorts ps
+
+pub short-number : (n : ℕ) → n < 4294967296 → Short (number n)
+short-number n h = record { few = decimal-few 9 n (omega arith) }
+
+short-after : (ps : List Piece) → Shorts ps → length (after ps) ≤ 1 + 11 * length ps
+short-after [] s = omega arith
+short-after (p ∷ ps) (s, t) =
+    let h = s .few in let k = short-after ps t in let e = length-append (spelt p) (after ps) in omega arith
+
+pub short-line : (p : Piece) (ps : List Piece) → Short p → Shorts ps → length (line p ps) ≤ 11 + 11 * length ps
+short-line p ps s t =
+    let h = s .few in let k = short-after ps t in let e = length-append (spelt p) (after ps) in omega arith
+
+-- ---- the three kinds of line
+pub verdict-line-short : (id kind : ℕ) (name : List ℕ) (level i j cells : ℕ) → id < 4294967296 → kind < 4294967296 → length name ≤ 10
+    → level < 4294967296 → i < 4294967296 → j < 4294967296 → cells < 4294967296 → length (verdictLine id kind name level i j cells) ≤ 77
+verdict-line-short id kind name level i j cells a b c d e f g =
+    short-line (number id) (number kind ∷ word name ∷ number level ∷ number i ∷ number j ∷ number cells ∷ [])
+    (short-number id a)
+    (short-number kind b, (record { few = c }, (short-number level d, (short-number i e, (short-number j f, (short-number cells g, tt))))))
+
+pub first-line-short : (n : ℕ) → n < 4294967296 → length (firstLine n) ≤ 33
+first-line-short n h =
+    short-line (word (67 ∷ 69 ∷ 76 ∷ [])) (number 1 ∷ number n ∷ []) (record { few = omega arith }) (short-number 1 (omega arith), (short-number n h, tt))
+
+pub refused-line-short : (c k : ℕ) → c < 4294967296 → k < 4294967296 → length (refusedLine c k) ≤ 33
+refused-line-short c k g h = short-line (word refusedWord) (number c ∷ number k ∷ []) (record { few = omega arith }) (short-number c g, (short-number k h, tt))

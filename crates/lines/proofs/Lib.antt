@@ -1,0 +1,2 @@
+-- How long lines are.
+pub mod Lengths

@@ -1,0 +1,2 @@
+-- The lines of the list as text.
+pub mod Words

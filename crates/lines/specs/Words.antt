@@ -1,0 +1,42 @@
+-- A line of the list as text: words, and numbers in decimal, parted by one space each (01, the sample of the program `verdicts`).
+--   Piece              == a word, or a number
+--   spelt p            == the text of a piece
+--   line ps            == the pieces, one space before each but the first, and the line's end
+--   firstLine n        == "First line: mark, version, count"
+--   verdictLine        == "Then id, kind, verdict, level, i, j, cells"
+--   refusedLine c k    == "A refused block prints only `refused`, code, record number, on one line"
+-- Definitions only.
+use mathlib.Core.List.{List, [], _∷_, _++_}
+use Prim.Native.Nat.{ℕ}
+use Rattle.text.specs.Writing.{decimal}
+
+pub data Piece : Type 0 where
+  word : List ℕ → Piece
+  number : ℕ → Piece
+
+abbrev pub spelt : Piece → List ℕ
+spelt (word w) = w
+spelt (number n) = decimal n
+
+-- 32 is the space, 10 the end of a line
+abbrev pub after : List Piece → List ℕ
+after [] = 10 ∷ []
+after (p ∷ ps) = 32 ∷ (spelt p ++ after ps)
+
+abbrev pub line : Piece → List Piece → List ℕ
+line p ps = spelt p ++ after ps
+
+-- ---- the three kinds of line; 67 69 76 are the letters CEL
+abbrev pub firstLine : ℕ → List ℕ
+firstLine n = line (word (67 ∷ 69 ∷ 76 ∷ [])) (number 1 ∷ number n ∷ [])
+
+abbrev pub verdictLine : ℕ → ℕ → List ℕ → ℕ → ℕ → ℕ → ℕ → List ℕ
+verdictLine id kind verdict level i j cells =
+    line (number id) (number kind ∷ word verdict ∷ number level ∷ number i ∷ number j ∷ number cells ∷ [])
+
+-- the letters of `refused`
+abbrev pub refusedWord : List ℕ
+refusedWord = 114 ∷ 101 ∷ 102 ∷ 117 ∷ 115 ∷ 101 ∷ 100 ∷ []
+
+abbrev pub refusedLine : ℕ → ℕ → List ℕ
+refusedLine c k = line (word refusedWord) (number c ∷ number k ∷ [])

@@ -1,0 +1,192 @@
+-- The list, line by line.
+--   line-judged     : the line of a verdict of a well-formed record is the record's line
+--   line-written    : so it is where the line was written
+--   name-short      : no name is longer than ten letters
+--   lines-none, lines-more : no line; the line of one more record
+--   whole-refused, whole-listed : the list of bytes that are refused, and of a block
+--   list-within, list-short, list-fits : the list copied from a large buffer into the lent one, or not where it has no room
+-- Assumes nothing.
+use mathlib.Core.Path.{_≡_, refl, sym, _∙_, ap, subst}
+use mathlib.Core.List.{List, [], _∷_, _++_}
+use mathlib.Core.Logic.{_⊎_, inl, inr}
+use Prim.Native.Nat.{ℕ, _+_, _*_, _≤_, _<_}
+use native.Mathlib.Decide.{decLe}
+use native.Mathlib.Numerals.{add-one}
+use native.Mathlib.Omega.{arith}
+use lib.ListN.{length, take, drop, getD, length-append}
+use lib.Seq.{take-suc, take-all, take-append-seam, length-take-le}
+use Rattle.element.specs.Kinds.{NotKind, kindOf}
+use Rattle.element.specs.Refusals.{Accepted, verdictCodes}
+use Rattle.element.proofs.Refusals.{refused-accepted}
+use Rattle.judge.specs.Verdict as judge
+use Rattle.verdict.specs.declared.Word.{Word}
+use Rattle.verdict.specs.declared.Word.the-variants.{Nothing, Valid, Invalid, Undecided}
+use Rattle.verdict.specs.declared.Judged.{Judged}
+use Rattle.verdict.specs.Calls.{VerdictOf, tell}
+use Rattle.record.specs.declared.Record.{Record}
+use Rattle.record.specs.Record.{used, blank, WellFormed}
+use Rattle.block.specs.Block.{Holds, record-of}
+use Rattle.block.specs.declared.Checked.{Checked}
+use Rattle.block.specs.Calls.{Checks}
+use Rattle.block.proofs.Answers.{checks-refused, checks-counted}
+use Rattle.block.proofs.Blocks.{records-in, block-count}
+use Rattle.block.proofs.Demands.{checked-only}
+use Rattle.endian.specs.Numbers.{Bytes, over}
+use Rattle.text.specs.Writing.{Wrote}
+use Rattle.text.proofs.Wrote.{take-none, wrote-none, wrote-more}
+use Rattle.lines.specs.Words.{firstLine, verdictLine, refusedLine}
+use Rattle.lines.proofs.Lengths.{first-line-short, refused-line-short}
+use Rattle.list.specs.Listing.{name, Line, lineOf, Lines, no-more, _then_, Lists, refused, listed}
+use Rattle.list.specs.Calls.{WritesList}
+use Rattle.list.specs.Steps.{nameOf, judgedLine, Judging, LineWritten, LinesWritten, LinesTo, WholeList}
+
+-- ---- one line
+-- a kind that is known has at most nine nodes
+pub kind-few : (n : ℕ) → ¬ NotKind n → n ≤ 9
+kind-few n h = go (decLe n 9)
+  where
+    go : Dec (n ≤ 9) → n ≤ 9
+    go (yes k) = k
+    go (no k) = absurd (h (λ e. k (omega arith), λ e. k (omega arith), λ e. k (omega arith)))
+
+formed-accepted : (r : Record) → WellFormed r → Accepted (verdictCodes (r .kind) (r .limit) (used r))
+formed-accepted r w =
+    let k = kind-few (r .kind) (w .kind-known) in
+    let e = w .nine-pairs in
+    (w .kind-known, (w .level-allowed, ((λ f. f (length-take-le (2 * r .kind) (r .coords) (omega arith))), (w .inside, tt))))
+
+named : (w : judge.Word) → nameOf (tell w) ≡ name w
+named judge.valid = refl
+named judge.invalid = refl
+named judge.undecided = refl
+
+pub line-judged : (r : Record) (v : Judged) → WellFormed r → VerdictOf (r .kind) (r .limit) (used r) v → Line r (judgedLine (r .id) (r .kind) v)
+line-judged r v w (inl h) = absurd (refused-accepted (verdictCodes (r .kind) (r .limit) (used r)) (v .code) (h .refused) (formed-accepted r w))
+line-judged r v w (inr h) =
+    let a = h .answer in
+    record {
+      verdict = a;
+      judged = h .judges;
+      text = ap (judgedLine (r .id) (r .kind)) (h .told) ∙ ap (λ (n : List ℕ). verdictLine (r .id) (r .kind) n (a .level) (a .i) (a .j) (a .cells)) (named (a .word));
+    }
+
+-- no name is longer than ten letters
+pub name-short : (w : Word) → length (nameOf w) ≤ 10
+name-short Nothing = omega arith
+name-short Valid = omega arith
+name-short Invalid = omega arith
+name-short Undecided = omega arith
+
+pub line-written : (r s : Record) (v : Judged) → r ≡ s → WellFormed s → Judging (r .kind) (r .limit) (r .coords) v → length (judgedLine (r .id) (r .kind) v) ≤ 77 → {o o′ : List ℕ} {at p : ℕ}
+    → Wrote o at (judgedLine (r .id) (r .kind) v) o′ p → LineWritten s o at o′ p
+line-written r s v e f j n {o} {o′} {at} {p} w =
+    let u = subst (λ (x : Record). Judging (x .kind) (x .limit) (x .coords) v) e j (kind-few (s .kind) (f .kind-known)) in
+    record {
+      text = judgedLine (s .id) (s .kind) v;
+      line = line-judged s v f u;
+      short = subst (λ (x : Record). length (judgedLine (x .id) (x .kind) v) ≤ 77) e n;
+      wrote = subst (λ (x : Record). Wrote o at (judgedLine (x .id) (x .kind) v) o′ p) e w;
+    }
+
+-- ---- line by line
+append-none : (t : List ℕ) → t ++ [] ≡ t
+append-none [] = refl
+append-none (x ∷ t) = ap (λ (l : List ℕ). x ∷ l) (append-none t)
+
+append-assoc : (t u v : List ℕ) → (t ++ u) ++ v ≡ t ++ (u ++ v)
+append-assoc [] u v = refl
+append-assoc (x ∷ t) u v = ap (λ (l : List ℕ). x ∷ l) (append-assoc t u v)
+
+lines-append : {rs : List Record} {t : List ℕ} → Lines rs t → {r : Record} {u : List ℕ} → Line r u → Lines (rs ++ (r ∷ [])) (t ++ u)
+lines-append no-more {r} {u} q = subst (Lines (r ∷ [])) (append-none u) (q then no-more)
+lines-append (_then_ {r = s} {rs = rs} {t = t} {u = v} p ps) {r} {u} q =
+    subst (Lines (s ∷ (rs ++ (r ∷ [])))) (sym (append-assoc t v u)) (p then lines-append ps q)
+
+pub lines-none : (rs : List Record) (o : List ℕ) (at : ℕ) → LinesWritten (take 0 rs) o at o at
+lines-none rs o at = record { text = []; lines = go rs; short = omega arith; wrote = wrote-none o at }
+  where
+    go : (rs : List Record) → Lines (take 0 rs) []
+    go [] = no-more
+    go (r ∷ rs) = no-more
+
+pub lines-more : (rs : List Record) (k : ℕ) → k < length rs → {o o′ o″ : List ℕ} {at p q : ℕ}
+    → LinesWritten (take k rs) o at o′ p → LineWritten (record-of rs k) o′ p o″ q → LinesWritten (take (k + 1) rs) o at o″ q
+lines-more rs k h v w =
+    let e : take k rs ++ (record-of rs k ∷ []) ≡ take (k + 1) rs = sym (take-suc rs k blank h) ∙ ap (λ (n : ℕ). take n rs) (sym (add-one k)) in
+    let a = length-take-le k rs (omega arith) in
+    let b = length-take-le (k + 1) rs (omega arith) in
+    let c = length-append (v .text) (w .text) in
+    let s = v .short in
+    let t = w .short in
+    record {
+      text = v .text ++ w .text;
+      lines = subst (λ (l : List Record). Lines l (v .text ++ w .text)) e (lines-append (v .lines) (w .line));
+      short = omega arith;
+      wrote = wrote-more (v .wrote) (w .wrote);
+    }
+
+-- ---- the whole
+module _ {l : List ℕ} (r : Checked) (c : Checks l r) {o o′ : List ℕ} {p : ℕ} where
+  pub whole-refused : ¬ (r .code ≡ 0) → r .code < 4294967296 → r .number < 4294967296 → Wrote o 0 (refusedLine (r .code) (r .number)) o′ p → WholeList l o o′ p
+  whole-refused h m n w =
+      let s = refused-line-short (r .code) (r .number) m n in
+      record { text = refusedLine (r .code) (r .number); lists = refused (checks-refused l r c h); short = omega arith; wrote = w }
+
+  pub whole-listed : r .code ≡ 0 → Bytes l → Wrote o 0 (firstLine (r .count)) o′ p → {o″ : List ℕ} {q : ℕ} → LinesTo l (r .count) o′ p o″ q → WholeList l o o″ q
+  whole-listed e b f {o″} {q} lines =
+      record {
+        text = firstLine n ++ w .text;
+        lists = subst (λ (m : ℕ). Lists l (firstLine m ++ w .text)) (sym count) (listed h (subst (λ (xs : List Record). Lines xs (w .text)) all (w .lines)));
+        short = let few = h .few in let a = first-line-short n (omega (arith, count)) in let s = w .short in let k = length-append (firstLine n) (w .text) in
+            let i = ap (λ (xs : List Record). length xs) all in omega (arith, count);
+        wrote = wrote-more f (w .wrote);
+      }
+    where
+      n : ℕ
+      n = r .count
+
+      rs : List Record
+      rs = records-in l
+
+      h : Holds l rs
+      h = checked-only l r b c e
+
+      count : n ≡ length rs
+      count = ap (λ (x : Checked). x .count) (checks-counted l r c e .answer) ∙ block-count h
+
+      all : take n rs ≡ rs
+      all = take-all n rs (omega (arith, count))
+
+      w : LinesWritten (take n rs) o′ p o″ q
+      w = lines rs h (omega (arith, count))
+
+-- ---- the whole, copied
+-- what stands at the start of a large buffer
+take-over : (o t : List ℕ) → take (length t) (over o 0 t) ≡ t
+take-over o t = ap (λ (a : List ℕ). take (length t) (a ++ (t ++ drop (0 + length t) o))) (take-none o) ∙ take-append-seam t (drop (0 + length t) o)
+
+module _ {l s s′ : List ℕ} {n : ℕ} (h : length s ≡ 65536) (w : WholeList l s s′ n) where
+  list-length : n ≡ length (w .text)
+  list-length = let k = w .short in let e = w .wrote .place (omega arith) in omega arith
+
+  pub list-within : n ≤ length s′
+  list-within = let k = w .short in let e = w .wrote .size in omega (arith, list-length)
+
+  list-text : take n s′ ≡ w .text
+  list-text =
+      let k = w .short in
+      ap (λ (m : ℕ). take m s′) list-length ∙ ap (take (length (w .text))) (w .wrote .content (omega arith)) ∙ take-over s (w .text)
+
+  pub list-short : (o : List ℕ) → length o < n → WritesList l o o (record { code = 5; length = 0 })
+  list-short o r = inr (record { text = w .text; lists = w .lists; room = omega (arith, list-length); answer = refl; content = refl })
+
+  pub list-fits : (o o′ : List ℕ) (p : ℕ) → n ≤ length o → Wrote o 0 (take n s′) o′ p → WritesList l o o′ (record { code = 0; length = n })
+  list-fits o o′ p r v =
+      let e = ap length list-text in
+      inl (record {
+        text = w .text;
+        lists = w .lists;
+        room = omega (arith, list-length);
+        answer = ap (λ (m : ℕ). record { code = 0; length = m }) list-length;
+        content = v .content (omega (arith, list-length)) ∙ ap (over o 0) list-text;
+      })

@@ -1,0 +1,62 @@
+-- What the functions under `write_list` leave, a step each.
+--   nameOf w          == the name of the answer's word
+--   judgedLine id kind v == the line of an answer of `verdict`
+--   Judging kind limit coords v == v is the verdict of the element of a record with these fields
+--   LineWritten r o at o′ p   == of the buffer o, with the line of r written at the place `at`, o′ is left and p is the place after it
+--   LinesWritten rs o at o′ p == the same of the lines of the records rs
+--   LineAt, LinesTo   == the same of record k, and of the first n records, of bytes that are a block
+--   WholeList l o o′ p == the same of the list of the bytes l, at the buffer's start
+-- Definitions only.
+use mathlib.Core.Path.{_≡_}
+use mathlib.Core.List.{List, [], _∷_}
+use Prim.Native.Nat.{ℕ, _*_, _≤_, _<_}
+use lib.IntN.{ℤ}
+use lib.ListN.{length, take}
+use Rattle.judge.specs.Verdict.{valid, invalid, undecided}
+use Rattle.verdict.specs.declared.Word.{Word}
+use Rattle.verdict.specs.declared.Word.the-variants.{Nothing, Valid, Invalid, Undecided}
+use Rattle.verdict.specs.declared.Judged.{Judged}
+use Rattle.verdict.specs.Calls.{VerdictOf}
+use Rattle.record.specs.declared.Record.{Record}
+use Rattle.block.specs.Block.{Holds, record-of}
+use Rattle.text.specs.Writing.{Wrote}
+use Rattle.lines.specs.Words.{verdictLine}
+use Rattle.list.specs.Listing.{name, Line, Lines, Lists}
+
+-- 45 is `-`, which stands for no verdict
+abbrev pub nameOf : Word → List ℕ
+nameOf Nothing = 45 ∷ []
+nameOf Valid = name valid
+nameOf Invalid = name invalid
+nameOf Undecided = name undecided
+
+abbrev pub judgedLine : ℕ → ℕ → Judged → List ℕ
+judgedLine id kind v = verdictLine id kind (nameOf (v .word)) (v .level) (v .i) (v .j) (v .cells)
+
+abbrev pub Judging : ℕ → ℕ → List ℤ → Judged → Type 0
+Judging kind limit coords v = kind ≤ 9 → VerdictOf kind limit (take (2 * kind) coords) v
+
+-- a line has at most 77 characters
+pub record LineWritten (r : Record) (o : List ℕ) (at : ℕ) (o′ : List ℕ) (p : ℕ) : Type 0 where
+  pub text : List ℕ
+  pub line : Line r text
+  pub short : length text ≤ 77
+  pub wrote : Wrote o at text o′ p
+
+pub record LinesWritten (rs : List Record) (o : List ℕ) (at : ℕ) (o′ : List ℕ) (p : ℕ) : Type 0 where
+  pub text : List ℕ
+  pub lines : Lines rs text
+  pub short : length text ≤ 77 * length rs
+  pub wrote : Wrote o at text o′ p
+
+abbrev pub LineAt : List ℕ → ℕ → List ℕ → ℕ → List ℕ → ℕ → Type 0
+LineAt l k o at o′ p = (rs : List Record) → Holds l rs → k < length rs → LineWritten (record-of rs k) o at o′ p
+
+abbrev pub LinesTo : List ℕ → ℕ → List ℕ → ℕ → List ℕ → ℕ → Type 0
+LinesTo l n o at o′ p = (rs : List Record) → Holds l rs → n ≤ length rs → LinesWritten (take n rs) o at o′ p
+
+pub record WholeList (l o o′ : List ℕ) (p : ℕ) : Type 0 where
+  pub text : List ℕ
+  pub lists : Lists l text
+  pub short : length text ≤ 65536
+  pub wrote : Wrote o 0 text o′ p

@@ -1,0 +1,108 @@
+// The list of a block's verdicts as text: the call `write_list`.
+use block::check_block;
+use block::record_at;
+use lines::first_line;
+use lines::refused_line;
+use lines::verdict_line;
+use text::write;
+use verdict::Judged;
+use verdict::Word;
+use verdict::verdict;
+ghost use mathlib.Core.Path.{_≡_};
+ghost use Prim.Native.Nat.{_*_, _≤_};
+ghost use lib.ListN.{length};
+ghost use Rattle.text.specs.Writing.{Wrote};
+ghost use Rattle.list.specs.Calls.{WritesList};
+ghost use Rattle.list.specs.Steps.{judgedLine, Judging, LineAt, LinesTo, WholeList};
+
+// The code, and the length of the list.
+pub struct Listed {
+    pub code: u8,
+    pub length: usize,
+}
+
+// How many of a record's numbers are coordinates of its nodes.
+fn used_numbers(kind: u8) -> usize
+    ensures { λ r. ⌜ (r ≤ 18) × (kind ≤ 9 → r ≡ 2 * kind) ⌝ }
+{
+    if 9 < kind {
+        return 18;
+    }
+    2 * (kind as usize)
+}
+
+// The verdict of a record's element under its own limit.
+pub fn judge(kind: u8, limit: u8, coords: [i32; 18]) -> Judged
+    ensures { λ v. ⌜ Judging kind limit coords v ⌝ }
+{
+    let n = used_numbers(kind);
+    verdict(kind, limit, &coords[..n])
+}
+
+// The line of a record, with its verdict.
+fn judged_line(out: &mut [u8], at: usize, id: u32, kind: u8, v: Judged) -> usize
+    ensures line { λ r. ⌜ Wrote (now (out .entry)) at (judgedLine id kind v) (now (out .exit)) r ⌝ }
+    ensures short { λ r. ⌜ length (judgedLine id kind v) ≤ 77 ⌝ }
+{
+    let id = id as u64;
+    let kind = kind as u64;
+    let level = v.level as u64;
+    let i = v.i as u64;
+    let j = v.j as u64;
+    let cells = v.cells as u64;
+    let word = v.word;
+    match word {
+        Word::Nothing => verdict_line(out, at, id, kind, b"-", level, i, j, cells),
+        Word::Valid => verdict_line(out, at, id, kind, b"valid", level, i, j, cells),
+        Word::Invalid => verdict_line(out, at, id, kind, b"invalid", level, i, j, cells),
+        Word::Undecided => verdict_line(out, at, id, kind, b"undecided", level, i, j, cells),
+    }
+}
+
+// The line of record k of a block.
+fn line_at(out: &mut [u8], at: usize, bytes: &[u8], k: u32) -> usize
+    ensures { λ r. ⌜ LineAt (now (bytes .entry)) k (now (out .entry)) at (now (out .exit)) r ⌝ }
+{
+    let r = record_at(bytes, k);
+    let coords = r.coords;
+    let v = judge(r.kind, r.limit, coords);
+    judged_line(out, at, r.id, r.kind, v)
+}
+
+// The lines of a block's records.
+fn lines_to(out: &mut [u8], from: usize, bytes: &[u8], count: u32) -> usize
+    ensures { λ r. ⌜ LinesTo (now (bytes .entry)) count (now (out .entry)) from (now (out .exit)) r ⌝ }
+{
+    let mut at = from;
+    let mut k = 0;
+    while k < count {
+        at = line_at(out, at, bytes, k);
+        k += 1;
+    }
+    at
+}
+
+// The list, where there is room for it, and the place after it.
+fn whole_list(bytes: &[u8], out: &mut [u8]) -> usize
+    ensures { λ r. ⌜ WholeList (now (bytes .entry)) (now (out .entry)) (now (out .exit)) r ⌝ }
+{
+    let c = check_block(bytes);
+    if c.code != 0 {
+        return refused_line(out, 0, c.code as u64, c.number as u64);
+    }
+    let at = first_line(out, 0, c.count as u64);
+    lines_to(out, at, bytes, c.count)
+}
+
+// Writes the list of a block into a buffer, and answers its length; 5 where the buffer is too short.
+pub fn write_list(bytes: &[u8], out: &mut [u8]) -> Listed
+    ensures { λ r. ⌜ WritesList (now (bytes .entry)) (now (out .entry)) (now (out .exit)) r ⌝ }
+{
+    let mut space = [0u8; 65536];
+    let n = whole_list(bytes, &mut space);
+    if out.len() < n {
+        return Listed { code: 5, length: 0 };
+    }
+    write::word(out, 0, &space[..n]);
+    Listed { code: 0, length: n }
+}
