@@ -1,6 +1,7 @@
 // Standard input line by line, as it comes: each line is answered when it is complete.
 use crate::answers::answer;
-ghost use Prim.Native.Nat.{_+_, _≤_, _<_};
+use text::read::line_end;
+ghost use Prim.Native.Nat.{_+_, _≤_};
 ghost use lib.ListN.{length};
 
 // What of the buffer is filled and not yet answered, whether it is the end of a line that was too long, and whether to go on.
@@ -9,20 +10,6 @@ struct State {
     have: usize,
     long: bool,
     more: bool,
-}
-
-// The place of the line's end, or `have` where none has come.
-fn line_end(line: &[u8], from: usize, have: usize) -> usize
-    ensures { λ r. ⌜ (r < have → from ≤ r) ⌝ }
-{
-    let mut at = from;
-    while at < have {
-        if text::read::byte(line, at) == 10 {
-            return at;
-        }
-        at += 1;
-    }
-    have
 }
 
 // Moves what is left to the front, and answers how much that is.

@@ -39,7 +39,12 @@ loop-less c = omega arith
 
 -- src/lines.rt:35:5
 loop-again : tie.Need-loop-again Inv-loop μ-loop
-loop-again c = (simp length-set (c .before .before .loop .inv .0), omega (arith, c .before .before .loop .inv .1), omega (arith, c .before .before .loop .inv .1, c .before .before .before .pre))
+loop-again c =
+    let l = c .before .before in (
+      simp length-set (l .loop .inv .0),
+      omega (arith, l .loop .inv .1),
+      omega (arith, l .loop .inv .1, l .before .pre),
+    )
 
 -- src/lines.rt:29:1
 same-length : tie.Need-same-length Inv-loop μ-loop

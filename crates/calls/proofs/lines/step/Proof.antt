@@ -12,11 +12,11 @@ line-end-requires c κs = search needs
 
 -- src/lines.rt:81:26
 sub-reply : tie.Need-sub-reply
-sub-reply c = c .before .line-end .ensures (c .if1 .taken)
+sub-reply c = c .before .line-end .ensures .0 (c .if1 .taken)
 
 -- src/lines.rt:81:26
 part-reply-start : tie.Need-part-reply-start
-part-reply-start c = c .before .before .line-end .ensures (c .before .if1 .taken)
+part-reply-start c = c .before .before .line-end .ensures .0 (c .before .if1 .taken)
 
 -- src/lines.rt:81:26
 part-reply-end : tie.Need-part-reply-end

@@ -1,11 +1,11 @@
--- `calls::proofs::answers::integers` is safe and ends: the place rises to the values' end.
+-- `pieces::integers` is safe and ends: the place rises to the values' end.
 use mathlib.Core.Path.{_≡_, refl, _∙_}
 use Prim.Native.Nat.{_-_, _≤_, _<_}
 use native.Mathlib.Omega.{arith}
 use borrow.Author.Needs.{needs}
 use lib.ListN.{length}
-use Rattle.calls.proofs.answers.integers.Statement.{statement}
-use Rattle.calls.proofs.answers.integers.Tie as tie
+use Rattle.pieces.proofs.integers.Statement.{statement}
+use Rattle.pieces.proofs.integers.Tie as tie
 
 abbrev Inv-loop : tie.InvT-loop
 Inv-loop out₀ from values at₀ k₀ out at k = length out ≡ length out₀
@@ -13,43 +13,43 @@ Inv-loop out₀ from values at₀ k₀ out at k = length out ≡ length out₀
 abbrev μ-loop : tie.MeasureT-loop
 μ-loop out₀ from values at₀ k₀ out at k = length values - k
 
--- src/answers.rt:33:5
+-- src/lib.rt:33:5
 loop-holds : tie.Need-loop-holds Inv-loop μ-loop
 loop-holds c = omega arith
 
--- src/answers.rt:34:9
+-- src/lib.rt:34:9
 put-requires : tie.Need-put-requires Inv-loop μ-loop
 put-requires c κs = search needs
 
--- src/answers.rt:35:38
+-- src/lib.rt:35:38
 mul-integer : tie.Need-mul-integer Inv-loop μ-loop
 mul-integer c = search needs
 
--- src/answers.rt:35:38
+-- src/lib.rt:35:38
 shared-slice-copy-out-integer : tie.Need-shared-slice-copy-out-integer Inv-loop μ-loop
 shared-slice-copy-out-integer c = search needs
 
--- src/answers.rt:35:9
+-- src/lib.rt:35:9
 integer-requires : tie.Need-integer-requires Inv-loop μ-loop
 integer-requires c κs = search needs
 
--- src/answers.rt:36:9
+-- src/lib.rt:36:9
 add-k : tie.Need-add-k Inv-loop μ-loop
 add-k c = search needs
 
--- src/answers.rt:33:5
+-- src/lib.rt:33:5
 loop-less : tie.Need-loop-less Inv-loop μ-loop
 loop-less c = omega arith
 
--- src/answers.rt:33:5
+-- src/lib.rt:33:5
 loop-again : tie.Need-loop-again Inv-loop μ-loop
 loop-again c = omega arith
 
--- src/answers.rt:30:1
+-- src/lib.rt:30:1
 same-length : tie.Need-same-length Inv-loop μ-loop
 same-length c = search needs
 
--- src/answers.rt:30:1
+-- src/lib.rt:30:1
 returns : tie.Need-returns Inv-loop μ-loop
 returns c = tt
 

@@ -1,0 +1,135 @@
+// The calls on one element: `control`, `bounds`, `verdict`.
+use control::Bounded;
+use pieces::integers;
+use pieces::naturals;
+use pieces::unknown;
+use text::read::number;
+use text::read::numbers;
+use text::read::up_to;
+use text::write;
+use verdict::Word;
+
+// Calls `control_values` with this buffer, and writes the code, the number of values and the values.
+fn control_answer(kind: u8, coords: &[i32], values: &mut [i64], out: &mut [u8]) -> usize {
+    let told = control::control_values(kind, coords, values);
+    let count = told.count;
+    let mut end = write::natural(out, 0, told.code as u64);
+    end = write::put(out, end, 32);
+    end = write::natural(out, end, count as u64);
+    end = integers(out, end, &values[..count]);
+    write::put(out, end, 10)
+}
+
+// `control ROOM KIND x y ..`: `code n v1 .. vn`.
+pub fn control_line(line: &[u8], at: usize, out: &mut [u8]) -> usize {
+    let room = number(line, at);
+    let kind = number(line, room.next);
+    let mut coords = [0; 64];
+    let n = numbers(line, kind.next, &mut coords);
+    let places = up_to(room, 64) as usize;
+    let k = up_to(kind, 255);
+    if 64 < places {
+        return unknown(out);
+    }
+    if 255 < k {
+        return unknown(out);
+    }
+    if 64 < n {
+        return unknown(out);
+    }
+    let mut values = [0; 64];
+    control_answer(k as u8, &coords[..n], &mut values[..places], out)
+}
+
+// A float that is a whole number, as a number.
+fn whole(x: f64) -> i64 {
+    if x >= -9223372036854775808.0 {
+        if x < 9223372036854775808.0 {
+            return std::num::truncating_f64_to_i64(x);
+        }
+    }
+    0
+}
+
+// Calls `solver_bounds`, and writes the code and both bounds as whole numbers.
+fn bounds_answer(kind: u8, coords: &[i32], out: &mut [u8]) -> usize {
+    match control::solver_bounds(kind, coords) {
+        Bounded::Both(b) => {
+            let end = write::word(out, 0, b"0");
+            let after = integers(out, end, &[whole(b.lo), whole(b.hi)]);
+            write::put(out, after, 10)
+        }
+        Bounded::Code(c) => {
+            let end = write::natural(out, 0, c as u64);
+            write::word(out, end, b" 0 0\n")
+        }
+    }
+}
+
+// `bounds KIND x y ..`: `code lo hi`.
+pub fn bounds_line(line: &[u8], at: usize, out: &mut [u8]) -> usize {
+    let kind = number(line, at);
+    let mut coords = [0; 64];
+    let n = numbers(line, kind.next, &mut coords);
+    let k = up_to(kind, 255);
+    if 255 < k {
+        return unknown(out);
+    }
+    if 64 < n {
+        return unknown(out);
+    }
+    bounds_answer(k as u8, &coords[..n], out)
+}
+
+// The name of a verdict; `-` for none.
+fn name(out: &mut [u8], at: usize, word: Word) -> usize {
+    match word {
+        Word::Nothing => write::word(out, at, b"-"),
+        Word::Valid => write::word(out, at, b"valid"),
+        Word::Invalid => write::word(out, at, b"invalid"),
+        Word::Undecided => write::word(out, at, b"undecided"),
+    }
+}
+
+// The code, and the name of the verdict.
+fn named(out: &mut [u8], code: u8, word: Word) -> usize {
+    let end = write::natural(out, 0, code as u64);
+    let space = write::put(out, end, 32);
+    name(out, space, word)
+}
+
+// Calls `verdict`, and writes the code, the verdict, the level, i, j, the value and the cells.
+fn verdict_answer(kind: u8, limit: u8, coords: &[i32], out: &mut [u8]) -> usize {
+    let told = verdict::verdict(kind, limit, coords);
+    let value = told.value;
+    let word = told.word;
+    let head = named(out, told.code, word);
+    let point = naturals(
+        out,
+        head,
+        &[told.level as u64, told.i as u64, told.j as u64],
+    );
+    let shown = integers(out, point, &[value]);
+    let end = naturals(out, shown, &[told.cells as u64]);
+    write::put(out, end, 10)
+}
+
+// `verdict KIND LIMIT x y ..`: `code verdict level i j value cells`.
+pub fn verdict_line(line: &[u8], at: usize, out: &mut [u8]) -> usize {
+    let kind = number(line, at);
+    let limit = number(line, kind.next);
+    let mut coords = [0; 64];
+    let n = numbers(line, limit.next, &mut coords);
+    let k = up_to(kind, 255);
+    let l = up_to(limit, 255);
+    if 255 < k {
+        return unknown(out);
+    }
+    if 255 < l {
+        return unknown(out);
+    }
+    if 64 < n {
+        return unknown(out);
+    }
+    verdict_answer(k as u8, l as u8, &coords[..n], out)
+}
