@@ -1,0 +1,274 @@
+// One element, straight from the rules: J from the node derivatives, control values by interpolation of J, and the verdict level by
+// level. Nothing here is shared with the checker: no control point, no cutting rule, no walk.
+
+pub type Num = i128;
+
+#[derive(Clone, Debug, PartialEq)]
+pub struct Verdict {
+    pub word: &'static str,
+    pub level: u32,
+    pub i: u64,
+    pub j: u64,
+    pub value: Num,
+    pub cells: u64,
+}
+
+#[derive(Clone)]
+pub struct Element {
+    pub kind: u8,
+    pub limit: u8,
+    pub coords: Vec<i32>,
+}
+
+pub fn coordinate_limit(kind: u8) -> i64 {
+    if kind == 6 { 65_536 } else { 2_048 }
+}
+
+pub fn greatest_level(kind: u8) -> u8 {
+    if kind == 6 { 10 } else { 4 }
+}
+
+// The code of a call on the element: 1, then 2 (the verdict only), 3, 4.
+pub fn code(e: &Element, with_level: bool) -> u8 {
+    if e.kind != 6 && e.kind != 8 && e.kind != 9 {
+        return 1;
+    }
+    if with_level && e.limit > greatest_level(e.kind) {
+        return 2;
+    }
+    if e.coords.len() != 2 * e.kind as usize {
+        return 3;
+    }
+    let most = coordinate_limit(e.kind);
+    if e.coords.iter().any(|&x| (x as i64).abs() > most) {
+        return 4;
+    }
+    0
+}
+
+fn det(a: [Num; 2], b: [Num; 2]) -> Num {
+    a[0] * b[1] - a[1] * b[0]
+}
+
+impl Element {
+    fn node(&self, k: usize) -> [Num; 2] {
+        [self.coords[2 * k] as Num, self.coords[2 * k + 1] as Num]
+    }
+
+    // (p + q + r)²·J of a triangle at the weights p, q, r.
+    fn triangle_j(&self, p: Num, q: Num, r: Num) -> Num {
+        let w = p + q + r;
+        let n: Vec<[Num; 2]> = (0..6).map(|k| self.node(k)).collect();
+        let (a0, a1, a2, m01, m12, m02) = (n[0], n[1], n[2], n[3], n[4], n[5]);
+        let mut xi = [0; 2];
+        let mut eta = [0; 2];
+        for c in 0..2 {
+            xi[c] = (4 * q - w) * a1[c] - (4 * p - w) * a0[c] + 4 * (p - q) * m01[c] + 4 * r * (m12[c] - m02[c]);
+            eta[c] = (4 * r - w) * a2[c] - (4 * p - w) * a0[c] + 4 * (p - r) * m02[c] + 4 * q * (m12[c] - m01[c]);
+        }
+        det(xi, eta)
+    }
+
+    // Four times the node ij of a quad; the centre of eight nodes is the mean of the edge nodes.
+    fn fourfold(&self, i: usize, j: usize) -> [Num; 2] {
+        let place = |i: usize, j: usize| {
+            let k = i + 3 * j;
+            if self.kind == 8 && k > 4 { k - 1 } else { k }
+        };
+        if self.kind == 8 && i == 1 && j == 1 {
+            let edges = [(1, 0), (0, 1), (2, 1), (1, 2)];
+            let mut s = [0; 2];
+            for (a, b) in edges {
+                let n = self.node(place(a, b));
+                s = [s[0] + n[0], s[1] + n[1]];
+            }
+            return s;
+        }
+        let n = self.node(place(i, j));
+        [4 * n[0], 4 * n[1]]
+    }
+
+    // 16·m³n³·J of a quad at u = p/m, v = q/n.
+    fn quad_j(&self, p: Num, m: Num, q: Num, n: Num) -> Num {
+        let s = |p: Num, m: Num| [(m - p) * (m - 2 * p), 4 * p * (m - p), p * (2 * p - m)];
+        let d = |p: Num, m: Num| [4 * p - 3 * m, 4 * m - 8 * p, 4 * p - m];
+        let (su, du, sv, dv) = (s(p, m), d(p, m), s(q, n), d(q, n));
+        let mut xu = [0; 2];
+        let mut xv = [0; 2];
+        for i in 0..3 {
+            for j in 0..3 {
+                let a = self.fourfold(i, j);
+                for c in 0..2 {
+                    xu[c] += du[i] * sv[j] * a[c];
+                    xv[c] += su[i] * dv[j] * a[c];
+                }
+            }
+        }
+        det(xu, xv)
+    }
+
+    // J at the grid point (i, j) of level d, at the scale of that level.
+    pub fn grid_value(&self, d: u32, i: u64, j: u64) -> Num {
+        let w = 1 << d;
+        let (i, j) = (i as Num, j as Num);
+        if self.kind == 6 {
+            2 * self.triangle_j(w - i - j, i, j)
+        } else {
+            exact(36 * self.quad_j(i, w, j, w), 16)
+        }
+    }
+
+    pub fn on_grid(&self, d: u32, i: u64, j: u64) -> bool {
+        let w = 1u64 << d;
+        if self.kind == 6 { i + j <= w } else { i <= w && j <= w }
+    }
+
+    // The control values of a cell at level d, by interpolation of J, at the scale of the level. A triangle's cell has the corners
+    // x[k], y[k] on the grid of its level; a quad's has the lower left corner x[0], y[0].
+    pub fn cell_values(&self, d: u32, x: &[u64], y: &[u64]) -> Vec<Num> {
+        if self.kind == 6 { self.triangle_values(d, x, y) } else { self.quad_values(d, x[0], y[0]) }
+    }
+
+    fn triangle_values(&self, d: u32, x: &[u64], y: &[u64]) -> Vec<Num> {
+        let corner: Vec<Num> = (0..3).map(|k| self.grid_value(d, x[k], y[k])).collect();
+        // the form is (c_kk + 2 c_kl + c_ll)/4 at the middle of an edge
+        let edge = |k: usize, l: usize| {
+            let middle = self.grid_value(d + 1, x[k] + x[l], y[k] + y[l]);
+            exact(middle - corner[k] - corner[l], 2)
+        };
+        vec![corner[0], corner[1], corner[2], edge(0, 1), edge(1, 2), edge(0, 2)]
+    }
+
+    fn quad_values(&self, d: u32, x: u64, y: u64) -> Vec<Num> {
+        let m = 3 * (1 << d);
+        let mut f = [[0; 4]; 4];
+        for a in 0..4 {
+            for b in 0..4 {
+                f[a][b] = self.quad_j(3 * x as Num + a as Num, m, 3 * y as Num + b as Num, m);
+            }
+        }
+        // from the values at 0, 1/3, 2/3, 1 to six times the Bernstein coefficients
+        let line = |v: [Num; 4]| {
+            [6 * v[0], -5 * v[0] + 18 * v[1] - 9 * v[2] + 2 * v[3], 2 * v[0] - 9 * v[1] + 18 * v[2] - 5 * v[3], 6 * v[3]]
+        };
+        let mut g = [[0; 4]; 4];
+        for b in 0..4 {
+            let v = line([f[0][b], f[1][b], f[2][b], f[3][b]]);
+            for a in 0..4 {
+                g[a][b] = v[a];
+            }
+        }
+        let mut out = vec![0; 16];
+        for a in 0..4 {
+            let v = line(g[a]);
+            for b in 0..4 {
+                // 36·64^d·J is 36/(16·729) of quad_j; the two lines gave 36 fold
+                out[a + 4 * b] = exact(v[b], 16 * 729);
+            }
+        }
+        out
+    }
+
+    pub fn control_values(&self) -> Vec<Num> {
+        self.cell_values(0, &[0, 1, 0], &[0, 0, 1])
+    }
+
+    pub fn passes(&self, v: &[Num]) -> bool {
+        let corners: &[usize] = if self.kind == 6 { &[0, 1, 2] } else { &[0, 3, 12, 15] };
+        v.iter().enumerate().all(|(k, &z)| if corners.contains(&k) { z > 0 } else { z >= 0 })
+    }
+
+    // Each cell of a level, by its corners.
+    fn cells(&self, d: u32) -> Vec<([u64; 3], [u64; 3])> {
+        let w = 1u64 << d;
+        let mut out = Vec::new();
+        for j in 0..w {
+            for i in 0..w {
+                if self.kind != 6 {
+                    out.push(([i; 3], [j; 3]));
+                } else if i + j < w {
+                    out.push(([i, i + 1, i], [j, j, j + 1]));
+                    if i + j + 1 < w {
+                        out.push(([i + 1, i, i + 1], [j + 1, j + 1, j]));
+                    }
+                }
+            }
+        }
+        out
+    }
+
+    // The quarters of a cell, on the grid of the next level.
+    fn quarters(&self, x: [u64; 3], y: [u64; 3]) -> Vec<([u64; 3], [u64; 3])> {
+        if self.kind != 6 {
+            let (a, b) = (2 * x[0], 2 * y[0]);
+            return vec![([a; 3], [b; 3]), ([a + 1; 3], [b; 3]), ([a; 3], [b + 1; 3]), ([a + 1; 3], [b + 1; 3])];
+        }
+        let e = |v: [u64; 3], k: usize, l: usize| v[k] + v[l];
+        let four = |v: [u64; 3]| {
+            [
+                [2 * v[0], e(v, 0, 1), e(v, 0, 2)],
+                [e(v, 0, 1), 2 * v[1], e(v, 1, 2)],
+                [e(v, 0, 2), e(v, 1, 2), 2 * v[2]],
+                [e(v, 1, 2), e(v, 0, 2), e(v, 0, 1)],
+            ]
+        };
+        let (fx, fy) = (four(x), four(y));
+        (0..4).map(|k| (fx[k], fy[k])).collect()
+    }
+
+    // The least number of cells in a cutting of this cell, no deeper than `left` more levels, whose cells all pass: both ways are tried.
+    fn least(&self, d: u32, left: u32, x: [u64; 3], y: [u64; 3]) -> Option<u64> {
+        let keep = if self.passes(&self.cell_values(d, &x, &y)) { Some(1) } else { None };
+        let mut cut = None;
+        if left > 0 {
+            cut = Some(0);
+            for (a, b) in self.quarters(x, y) {
+                let more = self.least(d + 1, left - 1, a, b);
+                cut = match (cut, more) {
+                    (Some(s), Some(t)) => Some(s + t),
+                    _ => None,
+                };
+            }
+        }
+        match (keep, cut) {
+            (Some(a), Some(b)) => Some(a.min(b)),
+            (a, None) => a,
+            (None, b) => b,
+        }
+    }
+
+    // The first bad point of a level by j, then i.
+    fn first_bad(&self, d: u32) -> Option<(u64, u64)> {
+        let w = 1u64 << d;
+        for j in 0..=w {
+            for i in 0..=w {
+                if self.on_grid(d, i, j) && self.grid_value(d, i, j) <= 0 {
+                    return Some((i, j));
+                }
+            }
+        }
+        None
+    }
+
+    // Level by level.
+    pub fn verdict(&self) -> Verdict {
+        let mut open = 0;
+        for d in 0..=self.limit as u32 {
+            open = self.cells(d).iter().filter(|(x, y)| !self.passes(&self.cell_values(d, x, y))).count() as u64;
+            if open == 0 {
+                let cells = self.least(0, d, [0, 1, 0], [0, 0, 1]).expect("a passing level is a cutting");
+                return Verdict { word: "valid", level: d, i: 0, j: 0, value: 0, cells };
+            }
+            if let Some((i, j)) = self.first_bad(d) {
+                return Verdict { word: "invalid", level: d, i, j, value: self.grid_value(d, i, j), cells: 0 };
+            }
+        }
+        Verdict { word: "undecided", level: self.limit as u32, i: 0, j: 0, value: 0, cells: open }
+    }
+}
+
+// A division without remainder.
+fn exact(a: Num, b: Num) -> Num {
+    assert!(a % b == 0, "{} is no multiple of {}", a, b);
+    a / b
+}

@@ -1,0 +1,168 @@
+// An independent judge: it makes sets of elements and blocks from fixed seeds, and writes what the checker must answer to them.
+//   independent DIR    writes DIR/calls.txt and DIR/lists.txt
+// A line of calls.txt is `a line for the program calls -> its answer`; one of lists.txt is `a block in hex -> what the program
+// verdicts prints, its lines joined by " / "`.
+
+mod block;
+mod element;
+mod sets;
+
+use block::{block_bytes, check, hex, list, stored, Record};
+use element::{code, Element};
+use sets::{elements, Random};
+use std::fmt::Write as _;
+use std::sync::{Arc, Mutex};
+
+fn words<T: ToString>(l: &[T]) -> String {
+    l.iter().map(|x| format!(" {}", x.to_string())).collect()
+}
+
+fn verdict_line(e: &Element) -> String {
+    let answer = match code(e, true) {
+        0 => {
+            let v = e.verdict();
+            format!("0 {} {} {} {} {} {}", v.word, v.level, v.i, v.j, v.value, v.cells)
+        }
+        c => format!("{} - 0 0 0 0 0", c),
+    };
+    format!("verdict {} {}{} -> {}\n", e.kind, e.limit, words(&e.coords), answer)
+}
+
+fn control_lines(e: &Element, room: u64) -> String {
+    let (mut a, mut b) = (format!("{} 0", code(e, false)), format!("{} 0 0", code(e, false)));
+    if code(e, false) == 0 {
+        let v = e.control_values();
+        b = format!("0 {} {}", v.iter().min().unwrap(), v.iter().max().unwrap());
+        a = if (room as usize) < v.len() { "5 0".to_string() } else { format!("0 {}{}", v.len(), words(&v)) };
+    }
+    let c = words(&e.coords);
+    format!("control {} {}{} -> {}\nbounds {}{} -> {}\n", room, e.kind, c, a, e.kind, c, b)
+}
+
+// Some records with rising ids.
+fn records(r: &mut Random, from: &[Element], count: usize) -> Vec<Record> {
+    let mut id = r.range(0, 9) as u32;
+    let mut out = Vec::new();
+    while out.len() < count {
+        let element = from[(r.next() % from.len() as u64) as usize].clone();
+        // an element of a block is one that `verdict` accepts, and not a slow one
+        if code(&element, true) != 0 || element.limit > 4 {
+            continue;
+        }
+        out.push(Record { id, element });
+        id += r.range(1, 1_000_000) as u32;
+    }
+    out
+}
+
+// A block with some byte or its length changed.
+fn damaged(r: &mut Random, b: &[u8]) -> Vec<u8> {
+    let mut out = b.to_vec();
+    match r.range(0, 5) {
+        0 => out.truncate((r.next() % (b.len() as u64 + 1)) as usize),
+        1 => out.extend([0; 80]),
+        2 => {
+            let at = (r.next() % 9.min(b.len() as u64)) as usize;
+            out[at] ^= 1 << r.range(0, 7);
+        }
+        3 if b.len() > 9 => {
+            // the head of a record
+            let k = r.next() as usize % ((b.len() - 9) / 80);
+            out[9 + 80 * k + r.range(0, 7) as usize] ^= 1 << r.range(0, 7);
+        }
+        _ => {
+            let at = (r.next() % b.len() as u64) as usize;
+            out[at] = r.next() as u8;
+        }
+    }
+    out
+}
+
+fn record_words(b: &[u8], k: usize) -> String {
+    let s = stored(b, k);
+    format!("0 0 {} {} {}{}", s.id, s.kind, s.limit, words(&s.pairs))
+}
+
+fn block_lines(b: &[u8], r: &mut Random) -> String {
+    let mut out = String::new();
+    let zeros = " 0".repeat(21);
+    let h = hex(b);
+    match check(b) {
+        Ok(n) => {
+            let _ = write!(out, "check {} -> 0 0 {}\n", h, n);
+            let mut walk = "0 0".to_string();
+            for k in 0..n {
+                let _ = write!(walk, " / {}", record_words(b, k));
+            }
+            let _ = write!(out, "walk {} -> {} / end\n", h, walk);
+            for k in [0, n as u64 / 2, n as u64, r.next() >> 32] {
+                let answer = if k < n as u64 { record_words(b, k as usize) } else { format!("12 0{}", zeros) };
+                let _ = write!(out, "fetch {} {} -> {}\n", h, k, answer);
+            }
+        }
+        Err((c, k)) => {
+            let _ = write!(out, "check {} -> {} {} 0\n", h, c, k);
+            let _ = write!(out, "walk {} -> {} {} / end\n", h, c, k);
+            let _ = write!(out, "fetch {} 0 -> {} {}{}\n", h, c, k, zeros);
+        }
+    }
+    out
+}
+
+// The lines of `f` over the list, on two threads, in order.
+fn in_parallel(list: Vec<Element>, f: fn(&Element) -> String) -> Vec<String> {
+    let n = list.len();
+    let list = Arc::new(list);
+    let next = Arc::new(Mutex::new(0));
+    let out = Arc::new(Mutex::new(vec![String::new(); n]));
+    let threads: Vec<_> = (0..2)
+        .map(|_| {
+            let (list, next, out) = (list.clone(), next.clone(), out.clone());
+            std::thread::spawn(move || loop {
+                let k = {
+                    let mut g = next.lock().unwrap();
+                    *g += 1;
+                    *g - 1
+                };
+                if k >= n {
+                    return;
+                }
+                let s = f(&list[k]);
+                out.lock().unwrap()[k] = s;
+            })
+        })
+        .collect();
+    for t in threads {
+        t.join().unwrap();
+    }
+    Arc::try_unwrap(out).unwrap().into_inner().unwrap()
+}
+
+fn main() {
+    let dir = std::env::args().nth(1).expect("usage: independent DIR");
+    let all = elements();
+    let mut r = Random(7);
+    let mut calls = String::new();
+    for e in all.iter().step_by(16) {
+        let room = if r.range(0, 9) == 0 { r.range(0, 16) as u64 } else { r.range(16, 64) as u64 };
+        calls += &control_lines(e, room);
+    }
+    let mut lists = String::new();
+    for size in [0, 1, 2, 3, 4, 5, 8, 13, 800] {
+        let b = block_bytes(&records(&mut r, &all, size));
+        lists += &format!("{} -> {}\n", hex(&b), list(&b).join(" / "));
+        if size > 20 {
+            continue;
+        }
+        calls += &block_lines(&b, &mut r);
+        for _ in 0..24 {
+            let d = damaged(&mut r, &b);
+            calls += &block_lines(&d, &mut r);
+            lists += &format!("{} -> {}\n", hex(&d), list(&d).join(" / "));
+        }
+    }
+    let verdicts = in_parallel(all, verdict_line);
+    calls += &verdicts.concat();
+    std::fs::write(format!("{}/calls.txt", dir), calls).expect("calls.txt");
+    std::fs::write(format!("{}/lists.txt", dir), lists).expect("lists.txt");
+}
