@@ -81,21 +81,11 @@ pub fn bounds_line(line: &[u8], at: usize, out: &mut [u8]) -> usize {
     bounds_answer(k as u8, &coords[..n], out)
 }
 
-// The name of a verdict; `-` for none.
-fn name(out: &mut [u8], at: usize, word: Word) -> usize {
-    match word {
-        Word::Nothing => write::word(out, at, b"-"),
-        Word::Valid => write::word(out, at, b"valid"),
-        Word::Invalid => write::word(out, at, b"invalid"),
-        Word::Undecided => write::word(out, at, b"undecided"),
-    }
-}
-
 // The code, and the name of the verdict.
 fn named(out: &mut [u8], code: u8, word: Word) -> usize {
     let end = write::natural(out, 0, code as u64);
     let space = write::put(out, end, 32);
-    name(out, space, word)
+    lines::name(out, space, word)
 }
 
 // Calls `verdict`, and writes the code, the verdict, the level, i, j, the value and the cells.

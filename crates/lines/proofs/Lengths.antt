@@ -2,6 +2,7 @@
 --   Short p          == the piece p has at most ten characters
 --   short-number     : a number of 32 bits is short
 --   short-line       : a line of short pieces has at most eleven characters for each
+--   name-short       : and so is each name of a verdict
 --   verdict-line-short, first-line-short, refused-line-short : so at most 77, or 33
 -- Assumes nothing.
 use mathlib.Core.List.{List, [], _∷_, _++_}
@@ -10,6 +11,9 @@ use native.Mathlib.Omega.{arith}
 use lib.ListN.{length, length-append}
 use Rattle.text.specs.Writing.{decimal}
 use Rattle.text.proofs.Decimals.{decimal-few}
+use Rattle.verdict.specs.declared.Word.{Word}
+use Rattle.verdict.specs.declared.Word.the-variants.{Nothing, Valid, Invalid, Undecided}
+use Rattle.lines.specs.Names.{nameOf}
 use Rattle.lines.specs.Words.{Piece, word, number, spelt, after, line, firstLine, verdictLine, refusedWord, refusedLine}
 
 pub record Short (p : Piece) : Type 0 where
@@ -21,6 +25,12 @@ Shorts (p ∷ ps) = Short p × Shorts ps
 
 pub short-number : (n : ℕ) → n < 4294967296 → Short (number n)
 short-number n h = record { few = decimal-few 9 n (omega arith) }
+
+pub name-short : (w : Word) → length (nameOf w) ≤ 10
+name-short Nothing = omega arith
+name-short Valid = omega arith
+name-short Invalid = omega arith
+name-short Undecided = omega arith
 
 short-after : (ps : List Piece) → Shorts ps → length (after ps) ≤ 1 + 11 * length ps
 short-after [] s = omega arith

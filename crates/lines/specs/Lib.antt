@@ -1,2 +1,3 @@
 -- The lines of the list as text.
 pub mod Words
+pub mod Names

@@ -1,9 +1,14 @@
 // The lines of the list, written into a lent buffer.
 use text::write;
+use verdict::Judged;
+use verdict::Word;
 ghost use mathlib.Core.List.{[], _∷_};
+ghost use Prim.Native.Nat.{_≤_};
+ghost use lib.ListN.{length};
 ghost use Rattle.text.specs.Writing.{Wrote, decimal};
-ghost use Rattle.lines.specs.Words.{after, firstLine, verdictLine, refusedLine};
+ghost use Rattle.lines.specs.Words.{after, firstLine, refusedLine};
 ghost use Rattle.lines.specs.Words as spec;
+ghost use Rattle.lines.specs.Names.{nameOf, judgedLine};
 
 // A space and a number.
 fn number(out: &mut [u8], at: usize, n: u64) -> usize
@@ -11,14 +16,6 @@ fn number(out: &mut [u8], at: usize, n: u64) -> usize
 {
     let end = write::put(out, at, 32);
     write::natural(out, end, n)
-}
-
-// A space and a word.
-fn word(out: &mut [u8], at: usize, text: &[u8]) -> usize
-    ensures { λ r. ⌜ Wrote (now (out .entry)) at (32 ∷ now (text .entry)) (now (out .exit)) r ⌝ }
-{
-    let end = write::put(out, at, 32);
-    write::word(out, end, text)
 }
 
 // Two numbers with a space before each, and the end of the line.
@@ -38,28 +35,45 @@ pub fn first_line(out: &mut [u8], at: usize, n: u64) -> usize
     two_numbers(out, mark, 1, n)
 }
 
-// The line of a record, with the name of its verdict.
-pub fn verdict_line(
-    out: &mut [u8],
-    at: usize,
-    id: u64,
-    kind: u64,
-    name: &[u8],
-    level: u64,
-    i: u64,
-    j: u64,
-    cells: u64,
-) -> usize
-    ensures { λ r. ⌜ Wrote (now (out .entry)) at (verdictLine id kind (now (name .entry)) level i j cells) (now (out .exit)) r ⌝ }
+// Four numbers with a space before each, and the end of the line.
+fn four_numbers(out: &mut [u8], at: usize, a: u64, b: u64, c: u64, d: u64) -> usize
+    ensures { λ r. ⌜ Wrote (now (out .entry)) at (after (spec.number a ∷ spec.number b ∷ spec.number c ∷ spec.number d ∷ [])) (now (out .exit)) r ⌝ }
 {
-    let a = write::natural(out, at, id);
-    let b = number(out, a, kind);
-    let c = word(out, b, name);
-    let d = number(out, c, level);
-    let e = number(out, d, i);
-    let f = number(out, e, j);
-    let g = number(out, f, cells);
-    write::put(out, g, 10)
+    let first = number(out, at, a);
+    let second = number(out, first, b);
+    two_numbers(out, second, c, d)
+}
+
+// The name of a verdict.
+pub fn name(out: &mut [u8], at: usize, word: Word) -> usize
+    ensures { λ r. ⌜ Wrote (now (out .entry)) at (nameOf word) (now (out .exit)) r ⌝ }
+{
+    match word {
+        Word::Nothing => write::put(out, at, 45),
+        Word::Valid => write::word(out, at, b"valid"),
+        Word::Invalid => write::word(out, at, b"invalid"),
+        Word::Undecided => write::word(out, at, b"undecided"),
+    }
+}
+
+// The line of a record with its verdict: at most 77 characters.
+pub fn verdict_line(out: &mut [u8], at: usize, id: u32, kind: u8, v: Judged) -> usize
+    ensures line { λ r. ⌜ Wrote (now (out .entry)) at (judgedLine id kind v) (now (out .exit)) r ⌝ }
+    ensures short { λ r. ⌜ length (judgedLine id kind v) ≤ 77 ⌝ }
+{
+    let a = write::natural(out, at, id as u64);
+    let b = number(out, a, kind as u64);
+    let c = write::put(out, b, 32);
+    let word = v.word;
+    let d = name(out, c, word);
+    four_numbers(
+        out,
+        d,
+        v.level as u64,
+        v.i as u64,
+        v.j as u64,
+        v.cells as u64,
+    )
 }
 
 // The one line of a refused block.

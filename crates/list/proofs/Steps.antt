@@ -1,7 +1,6 @@
 -- The list, line by line.
 --   line-judged     : the line of a verdict of a well-formed record is the record's line
 --   line-written    : so it is where the line was written
---   name-short      : no name is longer than ten letters
 --   lines-none, lines-more : no line; the line of one more record
 --   whole-refused, whole-listed : the list of bytes that are refused, and of a block
 --   list-within, list-short, list-fits : the list copied from a large buffer into the lent one, or not where it has no room
@@ -19,8 +18,6 @@ use Rattle.element.specs.Kinds.{NotKind, kindOf}
 use Rattle.element.specs.Refusals.{Accepted, verdictCodes}
 use Rattle.element.proofs.Refusals.{refused-accepted}
 use Rattle.judge.specs.Verdict as judge
-use Rattle.verdict.specs.declared.Word.{Word}
-use Rattle.verdict.specs.declared.Word.the-variants.{Nothing, Valid, Invalid, Undecided}
 use Rattle.verdict.specs.declared.Judged.{Judged}
 use Rattle.verdict.specs.Calls.{VerdictOf, tell}
 use Rattle.record.specs.declared.Record.{Record}
@@ -35,10 +32,11 @@ use Rattle.endian.specs.Numbers.{Bytes, over}
 use Rattle.text.specs.Writing.{Wrote}
 use Rattle.text.proofs.Wrote.{take-none, wrote-none, wrote-more}
 use Rattle.lines.specs.Words.{firstLine, verdictLine, refusedLine}
+use Rattle.lines.specs.Names.{name, nameOf, judgedLine}
 use Rattle.lines.proofs.Lengths.{first-line-short, refused-line-short}
-use Rattle.list.specs.Listing.{name, Line, lineOf, Lines, no-more, _then_, Lists, refused, listed}
+use Rattle.list.specs.Listing.{Line, lineOf, Lines, no-more, _then_, Lists, refused, listed}
 use Rattle.list.specs.Calls.{WritesList}
-use Rattle.list.specs.Steps.{nameOf, judgedLine, Judging, LineWritten, LinesWritten, LinesTo, WholeList}
+use Rattle.list.specs.Steps.{Judging, LineWritten, LinesWritten, LinesTo, WholeList}
 
 -- ---- one line
 -- a kind that is known has at most nine nodes
@@ -69,13 +67,6 @@ line-judged r v w (inr h) =
       judged = h .judges;
       text = ap (judgedLine (r .id) (r .kind)) (h .told) ∙ ap (λ (n : List ℕ). verdictLine (r .id) (r .kind) n (a .level) (a .i) (a .j) (a .cells)) (named (a .word));
     }
-
--- no name is longer than ten letters
-pub name-short : (w : Word) → length (nameOf w) ≤ 10
-name-short Nothing = omega arith
-name-short Valid = omega arith
-name-short Invalid = omega arith
-name-short Undecided = omega arith
 
 pub line-written : (r s : Record) (v : Judged) → r ≡ s → WellFormed s → Judging (r .kind) (r .limit) (r .coords) v → length (judgedLine (r .id) (r .kind) v) ≤ 77 → {o o′ : List ℕ} {at p : ℕ}
     → Wrote o at (judgedLine (r .id) (r .kind) v) o′ p → LineWritten s o at o′ p

@@ -1,6 +1,5 @@
 -- The list of a block (01, "The program `verdicts`": "First line: mark, version, count. Then id, kind, verdict, level, i, j, cells. A
 -- refused block prints only `refused`, code, record number, on one line").
---   name w          == the word of a verdict as text
 --   lineOf r a      == the line of the record r with the verdict a
 --   Line r t        == t is the line of the record r: with the verdict of its element under its own limit
 --   Lines rs t      == t is the lines of the records rs, one behind the other
@@ -12,19 +11,14 @@ use Prim.Native.Nat.{ℕ}
 use lib.ListN.{length}
 use Rattle.element.specs.Kinds.{kindOf}
 use Rattle.element.specs.Refusals.{Refused}
-use Rattle.judge.specs.Verdict.{Word, valid, invalid, undecided, Answer, Judges}
+use Rattle.judge.specs.Verdict.{Answer, Judges}
 use Rattle.judge.specs.Elements.{subject}
 use Rattle.record.specs.declared.Record.{Record}
 use Rattle.record.specs.Record.{used}
 use Rattle.block.specs.Block.{Holds}
 use Rattle.block.specs.Faults.{Fault, blockCodes}
 use Rattle.lines.specs.Words.{firstLine, verdictLine, refusedLine}
-
--- the letters of `valid`, `invalid`, `undecided`
-abbrev pub name : Word → List ℕ
-name valid = 118 ∷ 97 ∷ 108 ∷ 105 ∷ 100 ∷ []
-name invalid = 105 ∷ 110 ∷ 118 ∷ 97 ∷ 108 ∷ 105 ∷ 100 ∷ []
-name undecided = 117 ∷ 110 ∷ 100 ∷ 101 ∷ 99 ∷ 105 ∷ 100 ∷ 101 ∷ 100 ∷ []
+use Rattle.lines.specs.Names.{name}
 
 abbrev pub lineOf : Record → Answer → List ℕ
 lineOf r a = verdictLine (r .id) (r .kind) (name (a .word)) (a .level) (a .i) (a .j) (a .cells)

@@ -1,6 +1,4 @@
 -- What the functions under `write_list` leave, a step each.
---   nameOf w          == the name of the answer's word
---   judgedLine id kind v == the line of an answer of `verdict`
 --   Judging kind limit coords v == v is the verdict of the element of a record with these fields
 --   LineWritten r o at o′ p   == of the buffer o, with the line of r written at the place `at`, o′ is left and p is the place after it
 --   LinesWritten rs o at o′ p == the same of the lines of the records rs
@@ -8,30 +6,16 @@
 --   WholeList l o o′ p == the same of the list of the bytes l, at the buffer's start
 -- Definitions only.
 use mathlib.Core.Path.{_≡_}
-use mathlib.Core.List.{List, [], _∷_}
+use mathlib.Core.List.{List}
 use Prim.Native.Nat.{ℕ, _*_, _≤_, _<_}
 use lib.IntN.{ℤ}
 use lib.ListN.{length, take}
-use Rattle.judge.specs.Verdict.{valid, invalid, undecided}
-use Rattle.verdict.specs.declared.Word.{Word}
-use Rattle.verdict.specs.declared.Word.the-variants.{Nothing, Valid, Invalid, Undecided}
 use Rattle.verdict.specs.declared.Judged.{Judged}
 use Rattle.verdict.specs.Calls.{VerdictOf}
 use Rattle.record.specs.declared.Record.{Record}
 use Rattle.block.specs.Block.{Holds, record-of}
 use Rattle.text.specs.Writing.{Wrote}
-use Rattle.lines.specs.Words.{verdictLine}
-use Rattle.list.specs.Listing.{name, Line, Lines, Lists}
-
--- 45 is `-`, which stands for no verdict
-abbrev pub nameOf : Word → List ℕ
-nameOf Nothing = 45 ∷ []
-nameOf Valid = name valid
-nameOf Invalid = name invalid
-nameOf Undecided = name undecided
-
-abbrev pub judgedLine : ℕ → ℕ → Judged → List ℕ
-judgedLine id kind v = verdictLine id kind (nameOf (v .word)) (v .level) (v .i) (v .j) (v .cells)
+use Rattle.list.specs.Listing.{Line, Lines, Lists}
 
 abbrev pub Judging : ℕ → ℕ → List ℤ → Judged → Type 0
 Judging kind limit coords v = kind ≤ 9 → VerdictOf kind limit (take (2 * kind) coords) v

@@ -11,9 +11,8 @@ use verdict::verdict;
 ghost use mathlib.Core.Path.{_≡_};
 ghost use Prim.Native.Nat.{_*_, _≤_};
 ghost use lib.ListN.{length};
-ghost use Rattle.text.specs.Writing.{Wrote};
 ghost use Rattle.list.specs.Calls.{WritesList};
-ghost use Rattle.list.specs.Steps.{judgedLine, Judging, LineAt, LinesTo, WholeList};
+ghost use Rattle.list.specs.Steps.{Judging, LineAt, LinesTo, WholeList};
 
 // The code, and the length of the list.
 pub struct Listed {
@@ -39,26 +38,6 @@ pub fn judge(kind: u8, limit: u8, coords: [i32; 18]) -> Judged
     verdict(kind, limit, &coords[..n])
 }
 
-// The line of a record, with its verdict.
-fn judged_line(out: &mut [u8], at: usize, id: u32, kind: u8, v: Judged) -> usize
-    ensures line { λ r. ⌜ Wrote (now (out .entry)) at (judgedLine id kind v) (now (out .exit)) r ⌝ }
-    ensures short { λ r. ⌜ length (judgedLine id kind v) ≤ 77 ⌝ }
-{
-    let id = id as u64;
-    let kind = kind as u64;
-    let level = v.level as u64;
-    let i = v.i as u64;
-    let j = v.j as u64;
-    let cells = v.cells as u64;
-    let word = v.word;
-    match word {
-        Word::Nothing => verdict_line(out, at, id, kind, b"-", level, i, j, cells),
-        Word::Valid => verdict_line(out, at, id, kind, b"valid", level, i, j, cells),
-        Word::Invalid => verdict_line(out, at, id, kind, b"invalid", level, i, j, cells),
-        Word::Undecided => verdict_line(out, at, id, kind, b"undecided", level, i, j, cells),
-    }
-}
-
 // The line of record k of a block.
 fn line_at(out: &mut [u8], at: usize, bytes: &[u8], k: u32) -> usize
     ensures { λ r. ⌜ LineAt (now (bytes .entry)) k (now (out .entry)) at (now (out .exit)) r ⌝ }
@@ -66,7 +45,7 @@ fn line_at(out: &mut [u8], at: usize, bytes: &[u8], k: u32) -> usize
     let r = record_at(bytes, k);
     let coords = r.coords;
     let v = judge(r.kind, r.limit, coords);
-    judged_line(out, at, r.id, r.kind, v)
+    verdict_line(out, at, r.id, r.kind, v)
 }
 
 // The lines of a block's records.

@@ -15,8 +15,8 @@ judge-requires : tie.Need-judge-requires
 judge-requires c κs = search needs
 
 -- src/lib.rt:64:5
-judged-line-requires : tie.Need-judged-line-requires
-judged-line-requires c κs = search needs
+verdict-line-requires : tie.Need-verdict-line-requires
+verdict-line-requires c κs = search needs
 
 -- src/lib.rt:58:1
 same-length : tie.Need-same-length
@@ -29,9 +29,9 @@ returns c = let c2 = c .before .before in let c4 = c2 .before .before in let c6 
     (c6 .record-at .ensures ∙ stored-record h (c9 .args .k) i)
     (h .formed (c9 .args .k) i)
     (c4 .judge .ensures)
-    (c2 .judged-line .ensures .1)
-    (c2 .judged-line .ensures .0)
+    (c2 .verdict-line .ensures .1)
+    (c2 .verdict-line .ensures .0)
 
 pub line-at-spec : {M : Type 1} → statement M
 line-at-spec =
-    tie.close (tie.spec record-at-requires judge-requires judged-line-requires same-length returns)
+    tie.close (tie.spec record-at-requires judge-requires verdict-line-requires same-length returns)
