@@ -1,9 +1,9 @@
 // One call a line of text in, one answer a line out.
 mod answers;
-mod lines;
+mod input;
 
 fn main() {
     let mut line = [0u8; 131072];
     let mut out = [0u8; 131072];
-    lines::run(&mut line, &mut out);
+    input::run(&mut line, &mut out);
 }

@@ -1,11 +1,11 @@
--- `calls::lines::shift` meets its contract: it writes at places that it has read.
+-- `calls::input::shift` meets its contract: it writes at places that it has read.
 use mathlib.Core.Path.{_≡_, refl}
 use Prim.Native.Nat.{_-_, _≤_, _<_}
 use native.Mathlib.Omega.{arith}
 use borrow.Author.Needs.{needs}
 use lib.ListN.{length, length-set}
-use Rattle.calls.proofs.lines.shift.Statement.{statement}
-use Rattle.calls.proofs.lines.shift.Tie as tie
+use Rattle.calls.proofs.input.shift.Statement.{statement}
+use Rattle.calls.proofs.input.shift.Tie as tie
 
 abbrev Inv-loop : tie.InvT-loop
 Inv-loop line₀ from have to₀ at₀ line to at = (length line ≡ length line₀) × (to ≤ at) × (to ≤ length line₀)
@@ -13,31 +13,31 @@ Inv-loop line₀ from have to₀ at₀ line to at = (length line ≡ length line
 abbrev μ-loop : tie.MeasureT-loop
 μ-loop line₀ from have to₀ at₀ line to at = have - at
 
--- src/lines.rt:35:5
+-- src/input.rt:35:5
 loop-holds : tie.Need-loop-holds Inv-loop μ-loop
 loop-holds c = (refl, omega arith, omega arith)
 
--- src/lines.rt:36:20
+-- src/input.rt:36:20
 slice-read-line : tie.Need-slice-read-line Inv-loop μ-loop
 slice-read-line c = omega (arith, c .before .before .loop .inv .0, c .before .before .before .pre)
 
--- src/lines.rt:36:9
+-- src/input.rt:36:9
 slice-write-line : tie.Need-slice-write-line Inv-loop μ-loop
 slice-write-line c = omega (arith, c .before .before .loop .inv .0, c .before .before .loop .inv .1, c .before .before .before .pre)
 
--- src/lines.rt:37:9
+-- src/input.rt:37:9
 add-to : tie.Need-add-to Inv-loop μ-loop
 add-to c = search needs
 
--- src/lines.rt:38:9
+-- src/input.rt:38:9
 add-at : tie.Need-add-at Inv-loop μ-loop
 add-at c = search needs
 
--- src/lines.rt:35:5
+-- src/input.rt:35:5
 loop-less : tie.Need-loop-less Inv-loop μ-loop
 loop-less c = omega arith
 
--- src/lines.rt:35:5
+-- src/input.rt:35:5
 loop-again : tie.Need-loop-again Inv-loop μ-loop
 loop-again c =
     let l = c .before .before in (
@@ -46,11 +46,11 @@ loop-again c =
       omega (arith, l .loop .inv .1, l .before .pre),
     )
 
--- src/lines.rt:29:1
+-- src/input.rt:29:1
 same-length : tie.Need-same-length Inv-loop μ-loop
 same-length c = c .before .loop .inv .0
 
--- src/lines.rt:29:1
+-- src/input.rt:29:1
 returns : tie.Need-returns Inv-loop μ-loop
 returns c = c .before .loop .inv .2
 
