@@ -10,9 +10,8 @@ use Prim.Native.Nat.{ℕ, zero, suc, _+_, _*_, _^_, _/_, _%_, _≤_}
 use native.Mathlib.Nat as N
 use lib.Dec.{T, leb, leb→le}
 use lib.IntN.{ℤ, negℤ, natAbs, _+ℤ_, _*ℤ_}
-use Rattle.algebra.specs.Expr.{Expr, var, con, _⊕_, _⊖_, _⊗_, neg, look, eval}
+use Rattle.algebra.specs.Expr.{Expr, var, con, _⊕_, _⊖_, _⊗_, neg, look, eval, evals}
 use Rattle.algebra.specs.Normal.{Poly, nil, term, normal, power, valueM, valueP, small}
-use Rattle.algebra.specs.Sign.{evals}
 use Rattle.algebra.specs.Within.{Each}
 use Rattle.algebra.specs.Bound.{Bounded, look-bound, bound, boundM, boundP, bound-normal, all-within, all-within-normal}
 use Rattle.algebra.proofs.Truth.{T-and}

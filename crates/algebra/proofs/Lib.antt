@@ -6,7 +6,5 @@ pub mod Size
 pub mod Normal
 pub mod Solve
 pub mod Bound
-pub mod Sign
 pub mod Within
 pub mod Fill
-pub mod Tests

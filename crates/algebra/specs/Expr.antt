@@ -3,6 +3,7 @@
 --   exprs     == the operations that build an expression
 --   look ρ i  == the number that stands for variable i; past the list's end it is 1
 --   eval ρ e  == the value of e where the variables stand for the numbers of ρ
+--   evals ρ es == the values of the expressions es
 --   degree e  == no monomial of e has a higher degree
 -- Definitions only.
 use mathlib.Core.List.{List, [], _∷_}
@@ -34,6 +35,10 @@ eval ρ (a ⊕ b) = eval ρ a +ℤ eval ρ b
 eval ρ (a ⊖ b) = eval ρ a -ℤ eval ρ b
 eval ρ (a ⊗ b) = eval ρ a *ℤ eval ρ b
 eval ρ (neg a) = negℤ (eval ρ a)
+
+abbrev pub evals : List ℤ → List Expr → List ℤ
+evals ρ [] = []
+evals ρ (e ∷ es) = eval ρ e ∷ evals ρ es
 
 abbrev pub degree : Expr → ℕ
 degree (var i) = 1

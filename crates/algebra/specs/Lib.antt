@@ -3,7 +3,5 @@ pub mod Ops
 pub mod Expr
 pub mod Normal
 pub mod Bound
-pub mod Sign
 pub mod Within
-pub mod Samples
 pub mod Fill

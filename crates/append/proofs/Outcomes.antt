@@ -18,13 +18,10 @@ use Rattle.append.proofs.Orders.{append-some}
 
 -- ---- start
 module _ (b : List ℕ) where
-  stopped : (r : Started) (a : List ℕ) → NotStarted b r a → r ≡ record { code = r .code; used = 0 }
-  stopped r a p = ap (λ (n : ℕ). record { code = r .code; used = n }) (p .no-used)
-
   pub starts-unique : (r s : Started) (a c : List ℕ) → Starts b r a → Starts b s c → (r ≡ s) × (a ≡ c)
   starts-unique r s a c (inl p) (inl q) = (
-    stopped r a p ∙ ap (λ (n : ℕ). record { code = n; used = 0 }) (refused-unique (startCodes b) (r .code) (s .code) (p .refused) (q .refused))
-        ∙ sym (stopped s c q),
+    p .zeros ∙ ap (λ (n : ℕ). record { code = n; number = 0; used = 0 }) (refused-unique (startCodes b) (r .code) (s .code) (p .refused) (q .refused))
+        ∙ sym (q .zeros),
     p .untouched ∙ sym (q .untouched),
   )
   starts-unique r s a c (inl p) (inr q) = absurd (refused-accepted (startCodes b) (r .code) (p .refused) (q .accepted))

@@ -30,13 +30,13 @@ use Rattle.append.specs.Append.{newRecord, appendCodes, startCodes}
 -- "A refusal returns the code, .. zero in all other fields, and changes no lent buffer"
 pub record NotStarted (b : List ℕ) (r : Started) (a : List ℕ) : Type 0 where
   pub refused : Refused (startCodes b) (r .code)
-  pub no-used : r .used ≡ 0
+  pub zeros : r ≡ record { code = r .code; number = 0; used = 0 }
   pub untouched : a ≡ b
 
 -- "start an empty block in a buffer (answers 9)"; "only .. the 9 header bytes of a new block .. change; the rest of the buffer stays"
 pub record IsStarted (b : List ℕ) (r : Started) (a : List ℕ) : Type 0 where
   pub accepted : Accepted (startCodes b)
-  pub answer : r ≡ record { code = 0; used = 9 }
+  pub answer : r ≡ record { code = 0; number = 0; used = 9 }
   pub written : a ≡ header 0 ++ drop 9 b
 
 abbrev pub Starts : List ℕ → Started → List ℕ → Type 0

@@ -17,9 +17,10 @@ ghost use Rattle.block.specs.Faults.{lowest};
 ghost use Rattle.append.specs.Append.{padded, newCodes, roomCodes};
 ghost use Rattle.append.specs.Calls.{Starts, Allows, Appends};
 
-// The code, and how many bytes are used.
+// The code, the record number, and how many bytes are used.
 pub struct Started {
     pub code: u8,
+    pub number: u32,
     pub used: u64,
 }
 
@@ -35,7 +36,11 @@ pub fn start_block(buffer: &mut [u8]) -> Started
     ensures { λ r. ⌜ Starts (now (buffer .entry)) r (now (buffer .exit)) ⌝ }
 {
     if buffer.len() < 9 {
-        return Started { code: 5, used: 0 };
+        return Started {
+            code: 5,
+            number: 0,
+            used: 0,
+        };
     }
     buffer[0] = 67;
     buffer[1] = 69;
@@ -43,7 +48,11 @@ pub fn start_block(buffer: &mut [u8]) -> Started
     buffer[3] = 1;
     buffer[4] = 0;
     put_u32(buffer, 5, 0);
-    Started { code: 0, used: 9 }
+    Started {
+        code: 0,
+        number: 0,
+        used: 9,
+    }
 }
 
 // Nine pairs: the coordinates, and then zeros.

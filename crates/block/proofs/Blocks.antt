@@ -3,8 +3,7 @@
 --   held-record    : the record k that is read from a block is its record k
 --   stored-record  : also without a check
 --   holds-accepted : a block has no fault
---   records-in l   == the records that are read from the bytes l, as many as the count says
---   accepted-holds : bytes without a fault are the block of these records
+--   accepted-holds : bytes without a fault are the block of the records that are read from them
 --   one-reading    : two lists of records with the same bytes are the same list
 -- Assumes nothing.
 use mathlib.Core.Path.{_≡_, refl, sym, ap, ap₂, _∙_, subst}
@@ -23,12 +22,12 @@ use Rattle.endian.proofs.Places.{length-part, bytes-part}
 use Rattle.record.specs.declared.Record.{Record}
 use Rattle.record.specs.Record.{WellFormed, recordBytes, blank}
 use Rattle.record.proofs.Codec.{part-more, record-length, read-written, written-read, stored-zero, stored-formed, formed-stored}
-use Rattle.block.specs.Block.{header, recordsBytes, blockBytes, record-of, Holds, countOf, place, recordAt}
-use Rattle.block.specs.Faults.{headerCodes, lowest, blockCodes}
+use Rattle.block.specs.Block.{header, recordsBytes, blockBytes, record-of, Holds, countOf, place, recordAt, records-from, records-in}
+use Rattle.block.specs.Faults.{headerCodes, lowest, codesAt, blockCodes}
 use Rattle.block.specs.Calls.{storedRecord}
 use Rattle.block.proofs.Header.{header-marked, header-long, header-version, header-few, header-size}
 use Rattle.block.proofs.Answers.{stored-within}
-use Rattle.block.proofs.Walk.{codesAt, walk-accepted, accepted-header, accepted-at}
+use Rattle.block.proofs.Walk.{walk-accepted, accepted-header, accepted-at}
 
 -- ---- written
 pub records-more : (rs qs : List Record) → recordsBytes (rs ++ qs) ≡ recordsBytes rs ++ recordsBytes qs
@@ -117,20 +116,11 @@ holds-accepted {l} {rs} h = walk-accepted l (header-accepted h) (record { each =
         (byte k 6 i (λ r s. refl)) (byte k 7 i (λ r s. refl)) (lowest-held h k i)
 
 -- ---- read: n records from record k on
-records-from : ℕ → ℕ → List ℕ → List Record
-records-from zero k l = []
-records-from (suc n) k l = recordAt l k ∷ records-from n (suc k) l
-
-pub records-in : List ℕ → List Record
-records-in l = records-from (countOf l) 0 l
-
 from-length : (n k : ℕ) (l : List ℕ) → length (records-from n k l) ≡ n
-unfolding records-from
 from-length zero k l = refl
 from-length (suc n) k l = ap suc (from-length n (suc k) l)
 
 from-at : (n k i : ℕ) (l : List ℕ) → i < n → record-of (records-from n k l) i ≡ recordAt l (k + i)
-unfolding records-from
 from-at zero k i l h = absurd (N.not-suc-le-zero h)
 from-at (suc n) k zero l h = ap (recordAt l) (let e : k ≡ k + 0 = omega arith in e)
 from-at (suc n) k (suc i) l h = from-at n (suc k) i l (N.le-of-suc-le-suc h) ∙ ap (recordAt l) (let e : suc k + i ≡ k + suc i = omega arith in e)
@@ -140,7 +130,6 @@ in-at l k h = from-at (countOf l) 0 k l h ∙ ap (recordAt l) (let e : 0 + k ≡
 
 from-bytes : (n k : ℕ) (l : List ℕ) → Bytes l → place (k + n) ≤ length l → ((j : ℕ) → j < k + n → Accepted (codesAt l j))
     → recordsBytes (records-from n k l) ≡ part (place k) (80 * n) l
-unfolding records-from
 from-bytes zero k l p h a = sym (none (drop (place k) l))
   where
     none : (d : List ℕ) → take 0 d ≡ []
@@ -167,7 +156,6 @@ header-read l p a =
     again at n h = ap (λ (w : ℕ). bytes w (number (part at n l))) (sym (length-part at n l h)) ∙ bytes-number (part at n l) (bytes-part at n p)
 
 pub accepted-holds : (l : List ℕ) → Bytes l → Accepted (blockCodes l) → Holds l (records-in l)
-unfolding records-in
 accepted-holds l p a =
     let b = accepted-header l a in
     let n = from-length (countOf l) 0 l in

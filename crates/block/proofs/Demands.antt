@@ -1,6 +1,7 @@
 -- What the calls answer over a block, and wrong programs that their contracts shut out.
 --   checked-block   : a block is accepted, with the count of its records: a check that refuses everything is shut out
 --   checked-only    : and bytes that are accepted are a block
+--   count-beyond    : a count above 800 is code 8, however long the bytes are: a product that wraps is shut out
 --   fetched-record, fetched-none : record k of a block, and none where k is not below the count
 --   fetched-rises   : two records differ: a fetch that gives record 0 each time is shut out
 -- Assumes nothing.
@@ -17,13 +18,24 @@ use Rattle.record.specs.declared.Record.{Record}
 use Rattle.record.specs.Record.{blank}
 use Rattle.block.specs.declared.Checked.{Checked}
 use Rattle.block.specs.declared.Fetched.{Fetched}
-use Rattle.block.specs.Block.{record-of, Holds}
+use Rattle.block.specs.Block.{record-of, Holds, countOf, records-in}
+use Rattle.block.specs.Faults.{NotBlock, OtherVersion}
 use Rattle.block.specs.Calls.{Checks, fetched, Fetches}
+use Rattle.block.proofs.Walk.{header-refused}
 use Rattle.block.proofs.Answers.{checks-unique, checks-counted, fetch-beyond, fetch-accepted, fetches-unique}
-use Rattle.block.proofs.Blocks.{block-count, held-record, holds-accepted, records-in, accepted-holds}
+use Rattle.block.proofs.Blocks.{block-count, held-record, holds-accepted, accepted-holds}
 
 pub checked-only : (l : List ℕ) (r : Checked) → Bytes l → Checks l r → r .code ≡ 0 → Holds l (records-in l)
 checked-only l r p c e = accepted-holds l p (checks-counted l r c e .accepted)
+
+pub count-beyond : (l : List ℕ) (r : Checked) → ¬ NotBlock l
+    → ¬ OtherVersion l
+    → 800 < countOf l
+    → Checks l r
+    → r ≡ record { code = 8; number = 0; count = 0 }
+count-beyond l r a b h c =
+    checks-unique l r (record { code = 8; number = 0; count = 0 }) c
+    (inl (record { refused = header-refused l 8 (inr (a, inr (b, inl (inl h, refl)))); no-count = refl }))
 
 module _ {l : List ℕ} {rs : List Record} (h : Holds l rs) where
   pub checked-block : (r : Checked) → Checks l r → r ≡ record { code = 0; number = 0; count = length rs }

@@ -4,3 +4,4 @@ pub mod Walk
 pub mod Answers
 pub mod Blocks
 pub mod Demands
+pub mod Long

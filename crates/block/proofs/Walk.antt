@@ -1,5 +1,4 @@
 -- The walk over the records of a block, fault by fault.
---   codesAt l k  == the order of record k
 --   Passed l k   == no record before record k has a fault
 --   passed-none, passed-more : none, and one more
 --   low-more     : the least id of the next record
@@ -17,13 +16,9 @@ use native.Mathlib.Omega.{arith}
 use native.Mathlib.Decide.{decLe}
 use Rattle.element.specs.Refusals.{Codes, Refused, Accepted}
 use Rattle.element.proofs.Refusals.{refused-some}
-use Rattle.record.specs.Faults.{recordCodes}
-use Rattle.block.specs.Block.{countOf, place, recordAt}
-use Rattle.block.specs.Faults.{Fault, naming, headerCodes, lowest, recordsCodes, blockCodes}
+use Rattle.block.specs.Block.{countOf, recordAt}
+use Rattle.block.specs.Faults.{Fault, naming, headerCodes, lowest, codesAt, recordsCodes, blockCodes}
 use Rattle.block.proofs.Orders.{refused-then, past-then, accepted-then, then-accepted, refused-of, accepted-of, of-accepted, then-refused, of-refused}
-
-abbrev pub codesAt : List ℕ → ℕ → Codes ℕ
-codesAt l k = recordCodes l (place k) (lowest l k)
 
 pub record Passed (l : List ℕ) (k : ℕ) : Type 0 where
   pub each : (j : ℕ) → j < k → Accepted (codesAt l j)

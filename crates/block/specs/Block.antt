@@ -7,10 +7,11 @@
 --   countOf l      == the count that is read in a header
 --   place k        == where record k begins
 --   recordAt l k   == the record k that is read from the bytes l
+--   records-from n k l, records-in l == n records from record k on, and all that the count says
 -- Definitions only.
 use mathlib.Core.Path.{_≡_}
 use mathlib.Core.List.{List, [], _∷_, _++_}
-use Prim.Native.Nat.{ℕ, suc, _+_, _*_, _≤_, _<_}
+use Prim.Native.Nat.{ℕ, zero, suc, _+_, _*_, _≤_, _<_}
 use lib.ListN.{length, getD}
 use Rattle.endian.specs.Numbers.{bytes, number, part}
 use Rattle.record.specs.declared.Record.{Record}
@@ -45,3 +46,10 @@ place k = 9 + 80 * k
 
 abbrev pub recordAt : List ℕ → ℕ → Record
 recordAt l k = readRecord l (place k)
+
+abbrev pub records-from : ℕ → ℕ → List ℕ → List Record
+records-from zero k l = []
+records-from (suc n) k l = recordAt l k ∷ records-from n (suc k) l
+
+abbrev pub records-in : List ℕ → List Record
+records-in l = records-from (countOf l) 0 l

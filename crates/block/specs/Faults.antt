@@ -5,7 +5,8 @@
 --   naming k o      == the faults of o, named with the record number k
 --   NotBlock, OtherVersion, WrongSize l == codes 6, 7, 8
 --   lowest l k      == the least id that record k may have
---   headerCodes, recordsCodes, blockCodes, fetchCodes == the orders
+--   codesAt l k     == the order of record k
+--   headerCodes, recordsCodes, blockCodes, fetchCodes == the orders of the header, of records, of the block and of a fetch
 -- Definitions only.
 use mathlib.Core.Path.{_≡_}
 use mathlib.Core.List.{List, [], _∷_}
@@ -51,10 +52,13 @@ abbrev pub lowest : List ℕ → ℕ → ℕ
 lowest l zero = 0
 lowest l (suc k) = suc (recordAt l k .id)
 
+abbrev pub codesAt : List ℕ → ℕ → Codes ℕ
+codesAt l k = recordCodes l (place k) (lowest l k)
+
 -- n records from record k on
 abbrev pub recordsCodes : ℕ → ℕ → List ℕ → Codes Fault
 recordsCodes zero k l = no-more
-recordsCodes (suc n) k l = naming k (recordCodes l (place k) (lowest l k)) then recordsCodes n (suc k) l
+recordsCodes (suc n) k l = naming k (codesAt l k) then recordsCodes n (suc k) l
 
 abbrev pub blockCodes : List ℕ → Codes Fault
 blockCodes l = naming 0 (headerCodes l) then recordsCodes (countOf l) 0 l

@@ -24,7 +24,8 @@ use Rattle.element.proofs.Sizes.{values-size}
 use Rattle.element.proofs.Refusals.{coded-some}
 use Rattle.faults.proofs.Limits.{accepted-each}
 use Rattle.quad.specs.Points.{quadKind}
-use Rattle.control.specs.Calls.{NoValues, Values, BoundsOf, SolverBounds}
+use Rattle.control.specs.Calls.{controlled, ControlValues, BoundsOf, SolverBounds}
+use Rattle.control.specs.declared.Controlled.{Controlled}
 use Rattle.control.specs.declared.Bounds.{Bounds}
 use Rattle.control.specs.declared.Bounded.the-variants.{Both, Code}
 
@@ -56,29 +57,38 @@ module _ (n : ℕ) (xs before : List ℤ) where
   earlier c (inr (f, inr (g, inl h))) = inr (f, inr (g, inl h))
   earlier c (inr (f, inr (g, inr (h, none)))) = absurd none
 
-  pub refuses : (c : ℕ) → Coded (boundsCodes n xs) c → ¬ (c ≡ 0) → NoValues n xs before c 0 before
-  refuses c p h = record { refused = earlier c (coded-some p h); no-count = refl; untouched = refl }
+  pub refuses : {r : Controlled} (c : ℕ) → Coded (boundsCodes n xs) c
+      → ¬ (c ≡ 0)
+      → r ≡ controlled c 0
+      → ControlValues n xs before r before
+  refuses c p h q =
+      subst (λ (r : Controlled). ControlValues n xs before r before) (sym q) (inl (record { refused = earlier c (coded-some p h); zeros = refl; untouched = refl }))
 
-  pub too-short : Accepted (boundsCodes n xs) → ShortRoom (kindOf n) (length before) → NoValues n xs before 5 0 before
-  too-short (f, (g, (h, none))) s =
-      record { refused = inr (f, inr (g, inr (h, inl (s, refl)))); no-count = refl; untouched = refl }
+  pub too-short : {r : Controlled} → Accepted (boundsCodes n xs)
+      → ShortRoom (kindOf n) (length before)
+      → r ≡ controlled 5 0
+      → ControlValues n xs before r before
+  too-short (f, (g, (h, none))) s q =
+      subst (λ (r : Controlled). ControlValues n xs before r before) (sym q)
+      (inl (record { refused = inr (f, inr (g, inr (h, inl (s, refl)))); zeros = refl; untouched = refl }))
 
-  pub succeeds : {values after : List ℤ} {count : ℕ}
+  pub succeeds : {values after : List ℤ} {count : ℕ} {r : Controlled}
       → Accepted (boundsCodes n xs)
       → count ≡ valueCount (kindOf n)
       → ¬ ShortRoom (kindOf n) (length before)
       → values ≡ controlValues (kindOf n) xs
       → after ≡ values ++ drop (length values) before
-      → Values n xs before 0 count after
-  succeeds (f, (g, (h, none))) m s e q =
-      record {
+      → r ≡ controlled 0 count
+      → ControlValues n xs before r after
+  succeeds (f, (g, (h, none))) m s e q t =
+      inr
+      (record {
         accepted = (f, (g, (h, (s, tt))));
-        no-code = refl;
-        many = m;
+        answer = t ∙ ap (controlled 0) m;
         filled = q
             ∙ ap (λ (l : List ℤ). l ++ drop (length l) before) e
             ∙ ap (λ (m : ℕ). controlValues (kindOf n) xs ++ drop m before) (values-length (kindOf n) xs);
-      }
+      })
 
 -- ---- bounds
 size-small : (k : Kind) → sizeLimit k 0 ≤ 2 ^ 53
@@ -101,11 +111,11 @@ pub values-many : (n : ℕ) (xs : List ℤ) {values : List ℤ} → values ≡ c
 values-many n xs e = rw e (rw (values-length (kindOf n) xs) (some (kindOf n)))
 
 pub bounds-refused : (n : ℕ) (xs : List ℤ) (c : ℕ) → Coded (boundsCodes n xs) c → ¬ (c ≡ 0) → SolverBounds n xs (Code c)
-bounds-refused n xs c p h = inl (record { refused = coded-some p h })
+bounds-refused n xs c p h = inl (record { refused = coded-some p h; no-number = refl; no-lo = refl; no-hi = refl })
 
 pub bounds-told : (n : ℕ) (xs : List ℤ) {values : List ℤ} {b : Bounds}
     → Accepted (boundsCodes n xs)
     → values ≡ controlValues (kindOf n) xs
     → BoundsOf values b
     → SolverBounds n xs (Both b)
-bounds-told n xs {values} {b} a e p = inr (record { accepted = a; told = tt; bounds = subst (λ v. BoundsOf v b) e p })
+bounds-told n xs {values} {b} a e p = inr (record { accepted = a; told = tt; no-code = refl; no-number = refl; bounds = subst (λ v. BoundsOf v b) e p })

@@ -1,5 +1,5 @@
 -- What the contracts of the calls come to: one outcome each, and bounds that hold.
---   control-values-unique : code, count and buffer are determined by the arguments
+--   control-values-unique : answer and buffer are determined by the arguments
 --   count-room            : the number of values is not above the number of the buffer's places
 --   bounds-of-unique, solver-bounds-unique : so is the answer of `solver_bounds`
 --   bounds-bracket        : its bounds are whole numbers, and the scaled J lies between them at every point
@@ -19,7 +19,8 @@ use Rattle.element.specs.Refusals.{controlCodes, boundsCodes}
 use Rattle.element.proofs.Refusals.{refused-unique, refused-accepted, refused-some}
 use Rattle.element.proofs.Bounds.{least-unique, greatest-unique, bounds-between}
 use Rattle.control.specs.Whole.{exact}
-use Rattle.control.specs.Calls.{NoValues, Values, ControlValues, codeOf, boundsOf, Told, BoundsOf, NoBounds, HasBounds, SolverBounds, Brackets}
+use Rattle.control.specs.Calls.{controlled, ControlValues, codeOf, boundsOf, Told, BoundsOf, NoBounds, HasBounds, SolverBounds, Brackets}
+use Rattle.control.specs.declared.Controlled.{Controlled}
 use Rattle.control.specs.declared.Bounds.{Bounds}
 use Rattle.control.specs.declared.Bounded.{Bounded}
 use Rattle.control.specs.declared.Bounded.the-variants.{Both, Code}
@@ -28,20 +29,21 @@ use Rattle.control.proofs.Running.{least-within, greatest-within}
 use Rattle.control.proofs.Whole.{exact-is}
 
 -- ---- control values
-pub control-values-unique : (n : ℕ) (xs before : List ℤ) {c d p q : ℕ} {a b : List ℤ}
-    → ControlValues n xs before c p a
-    → ControlValues n xs before d q b
-    → (c ≡ d) × (p ≡ q) × (a ≡ b)
-control-values-unique n xs before {c} {d} (inl u) (inl v) =
-    (refused-unique (controlCodes n xs _) c d (u .refused) (v .refused), u .no-count ∙ sym (v .no-count), u .untouched ∙ sym (v .untouched))
-control-values-unique n xs before {c} (inl u) (inr v) = absurd (refused-accepted (controlCodes n xs _) c (u .refused) (v .accepted))
-control-values-unique n xs before {d = d} (inr u) (inl v) =
-    absurd (refused-accepted (controlCodes n xs _) d (v .refused) (u .accepted))
-control-values-unique n xs before (inr u) (inr v) = (u .no-code ∙ sym (v .no-code), u .many ∙ sym (v .many), u .filled ∙ sym (v .filled))
+pub control-values-unique : (n : ℕ) (xs before : List ℤ) (r s : Controlled) (a b : List ℤ)
+    → ControlValues n xs before r a
+    → ControlValues n xs before s b
+    → (r ≡ s) × (a ≡ b)
+control-values-unique n xs before r s a b (inl u) (inl v) = (
+  u .zeros ∙ ap (λ (c : ℕ). controlled c 0) (refused-unique (controlCodes n xs _) (r .code) (s .code) (u .refused) (v .refused)) ∙ sym (v .zeros),
+  u .untouched ∙ sym (v .untouched),
+)
+control-values-unique n xs before r s a b (inl u) (inr v) = absurd (refused-accepted (controlCodes n xs _) (r .code) (u .refused) (v .accepted))
+control-values-unique n xs before r s a b (inr u) (inl v) = absurd (refused-accepted (controlCodes n xs _) (s .code) (v .refused) (u .accepted))
+control-values-unique n xs before r s a b (inr u) (inr v) = (u .answer ∙ sym (v .answer), u .filled ∙ sym (v .filled))
 
-pub count-room : {n : ℕ} {xs before after : List ℤ} {c p : ℕ} → ControlValues n xs before c p after → p ≤ length before
-count-room (inl r) = omega (arith, r .no-count)
-count-room (inr r) = omega (arith, N.le-of-suc-le-suc (N.lt-of-not-le (r .accepted .1 .1 .1 .0)), r .many)
+pub count-room : {n : ℕ} {xs before after : List ℤ} {r : Controlled} → ControlValues n xs before r after → r .count ≤ length before
+count-room (inl p) = omega (arith, ap (λ (q : Controlled). q .count) (p .zeros))
+count-room (inr p) = omega (arith, N.le-of-suc-le-suc (N.lt-of-not-le (p .accepted .1 .1 .1 .0)), ap (λ (q : Controlled). q .count) (p .answer))
 
 -- ---- bounds
 pub bounds-of-unique : (c : List ℤ) (a b : Bounds) → BoundsOf c a → BoundsOf c b → a ≡ b

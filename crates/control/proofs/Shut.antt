@@ -16,32 +16,34 @@ use Rattle.element.specs.Control.{controlValues}
 use Rattle.element.specs.Refusals.{Refused, Accepted, WrongLength, controlCodes}
 use Rattle.element.proofs.Values.{values-length}
 use Rattle.element.proofs.Refusals.{refused-accepted, refused-some}
-use Rattle.control.specs.Calls.{NoValues, Values, ControlValues}
+use Rattle.control.specs.Calls.{ControlValues}
+use Rattle.control.specs.declared.Controlled.{Controlled}
 
-module _ (n : ℕ) (xs before : List ℤ) where
-  pub length-first : {c p : ℕ} {after : List ℤ} → ControlValues n xs before c p after → ¬ NotKind n → WrongLength n xs → c ≡ 3
-  length-first {c} (inl r) k w = go (r .refused)
+module _ (n : ℕ) (xs before : List ℤ) (r : Controlled) (after : List ℤ) where
+  pub length-first : ControlValues n xs before r after → ¬ NotKind n → WrongLength n xs → r .code ≡ 3
+  length-first (inl p) k w = go (p .refused)
     where
-      go : Refused (controlCodes n xs (length before)) c → c ≡ 3
+      go : Refused (controlCodes n xs (length before)) (r .code) → r .code ≡ 3
       go (inl (f, e)) = absurd (k f)
       go (inr (f, inl (g, e))) = e
       go (inr (f, inr (g, h))) = absurd (g w)
-  length-first (inr r) k w = absurd (r .accepted .1 .0 w)
+  length-first (inr p) k w = absurd (p .accepted .1 .0 w)
 
-  pub refusal-keeps : {c p : ℕ} {after : List ℤ} → ControlValues n xs before c p after → ¬ (c ≡ 0) → after ≡ before
-  refusal-keeps (inl r) h = r .untouched
-  refusal-keeps (inr r) h = absurd (h (r .no-code))
+  pub refusal-keeps : ControlValues n xs before r after → ¬ (r .code ≡ 0) → after ≡ before
+  refusal-keeps (inl p) h = p .untouched
+  refusal-keeps (inr p) h = absurd (h (ap (λ (q : Controlled). q .code) (p .answer)))
 
-  pub success-keeps : {p : ℕ} {after : List ℤ} → ControlValues n xs before 0 p after → drop p after ≡ drop p before
-  success-keeps (inl r) = absurd (refused-some (controlCodes n xs (length before)) 0 tt (r .refused) refl)
-  success-keeps {p} {after} (inr r) =
+  pub success-keeps : ControlValues n xs before r after → r .code ≡ 0 → drop (r .count) after ≡ drop (r .count) before
+  success-keeps (inl p) h = absurd (refused-some (controlCodes n xs (length before)) (r .code) tt (p .refused) h)
+  success-keeps (inr p) h =
       let values = controlValues (kindOf n) xs in
       let rest = drop (valueCount (kindOf n)) before in
-      ap (λ (m : ℕ). drop m after) (r .many ∙ sym (values-length (kindOf n) xs))
-      ∙ ap (drop (length values)) (r .filled)
+      let many : r .count ≡ valueCount (kindOf n) = ap (λ (q : Controlled). q .count) (p .answer) in
+      ap (λ (m : ℕ). drop m after) (many ∙ sym (values-length (kindOf n) xs))
+      ∙ ap (drop (length values)) (p .filled)
       ∙ drop-append-seam values rest
-      ∙ ap (λ (m : ℕ). drop m before) (sym (r .many))
+      ∙ ap (λ (m : ℕ). drop m before) (sym many)
 
-  pub right-accepted : {c p : ℕ} {after : List ℤ} → Accepted (controlCodes n xs (length before)) → ControlValues n xs before c p after → c ≡ 0
-  right-accepted {c} a (inl r) = absurd (refused-accepted (controlCodes n xs (length before)) c (r .refused) a)
-  right-accepted a (inr r) = r .no-code
+  pub right-accepted : Accepted (controlCodes n xs (length before)) → ControlValues n xs before r after → r .code ≡ 0
+  right-accepted a (inl p) = absurd (refused-accepted (controlCodes n xs (length before)) (r .code) (p .refused) a)
+  right-accepted a (inr p) = ap (λ (q : Controlled). q .code) (p .answer)

@@ -8,11 +8,12 @@ ghost use lib.ListN.{length, drop};
 ghost use Rattle.algebra.specs.Within.{Each};
 ghost use Rattle.element.specs.Control.{at};
 ghost use Rattle.element.specs.Bounds.{Least, Greatest};
-ghost use Rattle.control.specs.Calls.{ControlValues, BoundsOf, SolverBounds};
+ghost use Rattle.control.specs.Calls.{controlled, ControlValues, BoundsOf, SolverBounds};
 
-// The code, and the number of values at the buffer's start.
+// The code, the record number, and the number of values at the buffer's start.
 pub struct Controlled {
     pub code: u8,
+    pub number: u32,
     pub count: usize,
 }
 
@@ -40,28 +41,39 @@ fn put(out: &mut [i64], values: &[i64])
     }
 }
 
+// An answer without a record number: no record is stored here.
+fn answer(code: u8, count: usize) -> Controlled
+    ensures { λ r. ⌜ r ≡ controlled code count ⌝ }
+{
+    Controlled {
+        code,
+        number: 0,
+        count,
+    }
+}
+
 // The control values of an element, at the start of a lent buffer.
 pub fn control_values(kind: u8, coords: &[i32], out: &mut [i64]) -> Controlled
-    ensures { λ r. ⌜ ControlValues kind (now (coords .entry)) (now (out .entry)) (r .code) (r .count) (now (out .exit)) ⌝ }
+    ensures { λ r. ⌜ ControlValues kind (now (coords .entry)) (now (out .entry)) r (now (out .exit)) ⌝ }
 {
     let code = element_code(kind, coords);
     if code != 0 {
-        return Controlled { code, count: 0 };
+        return answer(code, 0);
     }
     if kind == 6 {
         if out.len() < 6 {
-            return Controlled { code: 5, count: 0 };
+            return answer(5, 0);
         }
         let values = triangle::values(coords);
         put(out, &values);
-        return Controlled { code: 0, count: 6 };
+        return answer(0, 6);
     }
     if out.len() < 16 {
-        return Controlled { code: 5, count: 0 };
+        return answer(5, 0);
     }
     let values = quad::values(coords, kind == 8);
     put(out, &values);
-    Controlled { code: 0, count: 16 }
+    answer(0, 16)
 }
 
 // The first number if the test holds, else the second.

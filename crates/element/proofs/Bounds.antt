@@ -9,17 +9,18 @@ use native.Mathlib.Omega.{arith}
 use lib.IntN.{ℤ, pos, _*ℤ_, *ℤ-comm}
 use lib.ListN.{length}
 use lib.Signed.{_≤ℤ_}
+use Rattle.algebra.proofs.Ring.{*ℤ-assoc}
 use Rattle.algebra.proofs.Order.{0≤pos, ≤-antisymm, *ℤ-mono}
 use Rattle.forms.specs.Forms.{mass}
 use Rattle.forms.specs.Shapes.{spread, scaled, Sized}
 use Rattle.forms.proofs.Between.{scaled-above, scaled-below}
 use Rattle.element.specs.Kinds.{Kind, six, eight, nine, scale}
-use Rattle.element.specs.Places.{InQuad, Place}
-use Rattle.element.specs.Jacobian.{jacobian, fold}
+use Rattle.element.specs.Places.{InQuad, Place, cube, weightOf}
+use Rattle.element.specs.Jacobian.{jacobian, fold, factor}
 use Rattle.element.specs.Control.{controlValues, at}
-use Rattle.element.specs.Cells.{shapeOf}
-use Rattle.element.specs.Bounds.{Least, Greatest, cube, weightOf, Between}
-use Rattle.element.proofs.Places.{quadRows, rowsOf, place-point, scaled-is-J}
+use Rattle.element.specs.Cells.{shapeOf, quadRows, rowsOf}
+use Rattle.element.specs.Bounds.{Least, Greatest, Between}
+use Rattle.element.proofs.Places.{place-point, scaled-is-J}
 use Rattle.element.proofs.Values.{shape-lawful, values-length, entries-count}
 
 pub least-unique : (c : List ℤ) (y z : ℤ) → Least c y → Least c z → y ≡ z
@@ -45,6 +46,7 @@ mass-is eight x = quad-mass x
 mass-is nine x = quad-mass x
 
 -- ---- the scaled J lies between
+-- a bound of the value, taken fold² times
 grow : (n : ℕ) {a b : ℤ} → a ≤ℤ b → (pos n *ℤ a) ≤ℤ (pos n *ℤ b)
 grow n {a} {b} h =
     subst (λ z. z ≤ℤ (pos n *ℤ b)) (*ℤ-comm a (pos n)) (subst (λ z. (a *ℤ pos n) ≤ℤ z) (*ℤ-comm b (pos n)) (*ℤ-mono (0≤pos n) h))
@@ -55,20 +57,23 @@ pub bounds-between : (k : Kind) (xs : List ℤ) (lo hi : ℤ) → Least (control
     → Between k xs lo hi x
 bounds-between k xs lo hi l g x =
     record {
-      low = subst (λ z. (f *ℤ (pos (weightOf k x) *ℤ lo)) ≤ℤ z) (scaled-is-J k xs x)
-          (grow (fold k * fold k) (subst (λ (n : ℕ). (pos n *ℤ lo) ≤ℤ v) (mass-is k x) (scaled-above (shapeOf k) (shape-lawful k) c full (rowsOf k x) sized lo (l .below))));
-      high = subst (λ z. z ≤ℤ (f *ℤ (pos (weightOf k x) *ℤ hi))) (scaled-is-J k xs x)
-          (grow (fold k * fold k) (subst (λ (n : ℕ). v ≤ℤ (pos n *ℤ hi)) (mass-is k x) (scaled-below (shapeOf k) (shape-lawful k) c full (rowsOf k x) sized hi (g .above))));
+      low = subst (λ z. z ≤ℤ (pos (scale k 0) *ℤ jacobian k xs x)) (sym (weighted lo))
+          (subst (λ z. (f *ℤ (w *ℤ lo)) ≤ℤ z) (scaled-is-J k xs x) (grow (fold k * fold k) (scaled-above (shapeOf k) (shape-lawful k) c full (rowsOf k x) sized lo (l .below))));
+      high = subst (λ z. (pos (scale k 0) *ℤ jacobian k xs x) ≤ℤ z) (sym (weighted hi))
+          (subst (λ z. z ≤ℤ (f *ℤ (w *ℤ hi))) (scaled-is-J k xs x) (grow (fold k * fold k) (scaled-below (shapeOf k) (shape-lawful k) c full (rowsOf k x) sized hi (g .above))));
     }
   where
     f : ℤ
     f = pos (fold k * fold k)
 
+    w : ℤ
+    w = pos (mass (spread (shapeOf k .counts) (rowsOf k x)))
+
+    weighted : (z : ℤ) → pos (factor k x) *ℤ z ≡ f *ℤ (w *ℤ z)
+    weighted z = ap (λ (n : ℕ). pos (fold k * fold k * n) *ℤ z) (sym (mass-is k x)) ∙ *ℤ-assoc f w z
+
     c : List ℤ
     c = controlValues k xs
-
-    v : ℤ
-    v = scaled (shapeOf k) c (rowsOf k x)
 
     full : length c ≡ length (shapeOf k .entries)
     full = values-length k xs ∙ entries-count k

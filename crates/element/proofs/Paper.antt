@@ -1,12 +1,14 @@
 -- The control values are the paper's Bézier coefficients times the scale, with fractions cleared.
 --   points-through-nodes6, points-through-edge, points-through-centre : the doubled and the fourfold points are those of the
 --                        polynomial map through the nodes
---   values-relation24  : C²_IJK · value = 2 · C²_IJK · N_IJK, for the six values of a triangle
---   values-relation27  : C³_I · C³_J · value (I, J) = 36 · C³_I · C³_J · N_IJ, for the sixteen values of a quad
+--   triangle-coefficients : value k of the list of a triangle is 2 times the coefficient N_IJK of relation 24, at the degrees of its place
+--   quad-coefficients  : the value at place I + 4J of the list of a quad is 36 times the coefficient N_IJ of relation 27
 -- Assumes nothing.
 use mathlib.Core.Path.{_≡_, refl, sym, _∙_, ap}
 use mathlib.Core.List.{List, [], _∷_}
-use Prim.Native.Nat.{ℕ, zero, suc, _+_, _*_, _/_, _<_}
+use Prim.Native.Nat.{ℕ, zero, suc, _+_, _*_, _/_, _^_, _<_}
+use native.Mathlib.Nat as N
+use native.Mathlib.Omega.{arith}
 use lib.Dec.{T, eqb, eqb→eq}
 use lib.IntN.{ℤ, pos, _+ℤ_, _-ℤ_, _*ℤ_, +ℤ-idl, +ℤ-idr, +ℤ-comm}
 use lib.ListN.{getD}
@@ -15,25 +17,35 @@ use Rattle.algebra.proofs.Ring.{*ℤ-assoc, 1-*ℤ}
 use Rattle.algebra.proofs.Solve.{solve}
 use Rattle.forms.specs.Binomials.{choose}
 use Rattle.forms.specs.Cells.{every}
+use Rattle.forms.specs.Triangles.{degrees6}
+use Rattle.forms.specs.Quads.{sixteen}
 use Rattle.forms.proofs.Cells.{every-at}
+use Rattle.forms.proofs.Quads.{sixteen-at}
+use Rattle.element.specs.Kinds.{six, eight, nine, scale}
 use Rattle.element.specs.Plane.{Vec, _+ᵥ_, _*ᵥ_}
 use Rattle.element.specs.Nodes.{A0, A1, A2, M01, M12, M02}
-use Rattle.element.specs.Control.{doubled, between, Q00, Q11, Q22, Q01, Q12, Q02, edge, centre9, points, values6, value, at}
-use Rattle.element.specs.Paper.{multinomial, relation24, relation27}
+use Rattle.element.specs.Control.{doubled, between, Q00, Q11, Q22, Q01, Q12, Q02, edge, centre9, points, values6, value, R9, R8, controlValues, at}
+use Rattle.element.specs.Paper.{relation24, Times24, relation27, Times27}
+use Rattle.element.proofs.Places.{grow-both}
 use Rattle.element.proofs.Formulas as E
 
 ruleset drop-zeros = (+ℤ-idl, +ℤ-idr, 1-*ℤ, +ℤ-comm)
 
 -- ---- triangle: I, J, K go with A0, A1, A2
-pub values-relation24 : (xs : List ℤ)
-    → (pos (multinomial 2 0 0) *ℤ at (values6 xs) 0 ≡ pos 2 *ℤ relation24 xs 2 0 0)
-    × (pos (multinomial 0 2 0) *ℤ at (values6 xs) 1 ≡ pos 2 *ℤ relation24 xs 0 2 0)
-    × (pos (multinomial 0 0 2) *ℤ at (values6 xs) 2 ≡ pos 2 *ℤ relation24 xs 0 0 2)
-    × (pos (multinomial 1 1 0) *ℤ at (values6 xs) 3 ≡ pos 2 *ℤ relation24 xs 1 1 0)
-    × (pos (multinomial 0 1 1) *ℤ at (values6 xs) 4 ≡ pos 2 *ℤ relation24 xs 0 1 1)
-    × (pos (multinomial 1 0 1) *ℤ at (values6 xs) 5 ≡ pos 2 *ℤ relation24 xs 1 0 1)
-unfolding values6 relation24
-values-relation24 xs = (simp drop-zeros, simp drop-zeros, simp drop-zeros, simp drop-zeros, simp drop-zeros, simp drop-zeros)
+quadrupled : (m : ℕ) (c r : ℤ) → pos m *ℤ c ≡ pos 2 *ℤ r → pos (2 ^ 2 * m) *ℤ c ≡ pos (2 * 2 ^ 2) *ℤ r
+quadrupled m c r e = ap (λ (n : ℕ). pos n *ℤ c) (N.mul-comm 4 m) ∙ grow-both m 2 4 c r e
+
+pub triangle-coefficients : (xs : List ℤ) (k : ℕ) → k < 6
+    → let ms = getD degrees6 k [] in
+    Times24 (scale six 0) xs (getD ms 0 0) (getD ms 1 0) (getD ms 2 0) (at (controlValues six xs) k)
+unfolding controlValues values6 relation24
+triangle-coefficients xs zero h = quadrupled 1 (at (values6 xs) 0) (relation24 xs 2 0 0) (simp drop-zeros)
+triangle-coefficients xs (suc zero) h = quadrupled 1 (at (values6 xs) 1) (relation24 xs 0 2 0) (simp drop-zeros)
+triangle-coefficients xs (suc (suc zero)) h = quadrupled 1 (at (values6 xs) 2) (relation24 xs 0 0 2) (simp drop-zeros)
+triangle-coefficients xs (suc (suc (suc zero))) h = quadrupled 2 (at (values6 xs) 3) (relation24 xs 1 1 0) (simp drop-zeros)
+triangle-coefficients xs (suc (suc (suc (suc zero)))) h = quadrupled 2 (at (values6 xs) 4) (relation24 xs 0 1 1) (simp drop-zeros)
+triangle-coefficients xs (suc (suc (suc (suc (suc zero))))) h = quadrupled 2 (at (values6 xs) 5) (relation24 xs 1 0 1) (simp drop-zeros)
+triangle-coefficients xs (suc (suc (suc (suc (suc (suc k)))))) h = absurd (omega arith)
 
 -- ---- quad
 -- 9 is a multiple of C(3,I)·C(3,J)
@@ -44,13 +56,23 @@ nine-parts I J h k =
     parts : List ℕ → ℕ
     parts ks = let I : ℕ = getD ks 0 0 in let J : ℕ = getD ks 1 0 in choose 3 I * choose 3 J * (9 / (choose 3 I * choose 3 J))
 
-pub values-relation27 : (R : ℕ → ℕ → Vec) (I J : ℕ) → I < 4
-    → J < 4
-    → pos (choose 3 I * choose 3 J) *ℤ value R I J ≡ pos 9 *ℤ relation27 R I J
+value-coefficient : (R : ℕ → ℕ → Vec) (I J : ℕ) → I < 4 → J < 4 → Times27 36 R I J (value R I J)
 unfolding value relation27
-values-relation27 R I J h k =
-    sym (*ℤ-assoc (pos (choose 3 I * choose 3 J)) (pos (9 / (choose 3 I * choose 3 J))) (relation27 R I J))
-    ∙ ap (λ (n : ℕ). pos n *ℤ relation27 R I J) (nine-parts I J h k)
+value-coefficient R I J h k =
+    let c : ℕ = choose 3 I * choose 3 J in
+    ap (λ (n : ℕ). pos n *ℤ value R I J) (N.mul-comm 16 c)
+    ∙ grow-both c 9 16 (value R I J) (relation27 R I J)
+    (sym (*ℤ-assoc (pos c) (pos (9 / c)) (relation27 R I J)) ∙ ap (λ (n : ℕ). pos n *ℤ relation27 R I J) (nine-parts I J h k))
+
+pub quad-coefficients : (xs : List ℤ) (I J : ℕ) → I < 4
+    → J < 4
+    → Times27 (scale nine 0) (R9 xs) I J (at (controlValues nine xs) (I + 4 * J))
+    × Times27 (scale eight 0) (R8 xs) I J (at (controlValues eight xs) (I + 4 * J))
+unfolding controlValues
+quad-coefficients xs I J h k = (placed (R9 xs), placed (R8 xs))
+  where
+    placed : (R : ℕ → ℕ → Vec) → Times27 36 R I J (at (sixteen (value R)) (I + 4 * J))
+    placed R = rw (sixteen-at (value R) (pos 0) I J h k) (value-coefficient R I J h k)
 
 -- ---- the control points are those of the map through the nodes: at an edge's middle a quadratic map has a quarter of the
 -- points at the ends and half of the one between, and at the centre the same in both directions

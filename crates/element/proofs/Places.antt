@@ -1,23 +1,31 @@
 -- Places of an element as weights of its shape, and J there.
---   rowsOf k x       : the weights of a place; place-point: they are a point's; place-of: every point has a place
---   control-is-J     : the control sum at a place is the scaled J there, taken fold² times
+--   place-point, place-of : the weights of a place are a point's, and every point has a place
+--   control-is-J     : the control sum at a place is the scaled J there, times the weight of the place and fold²
 --   scaled-is-J      : and so is the value of the kind's form
---   jacobian-positive, positive-jacobian : J and the value have one sign
+--   positive-jacobian : J is positive where the value is
+--   grid-place, place-grid : the grid points are places, and the places at grid points are on the grid
 --   grid-on, on-grid : the grid points of a kind are those of its shape
---   grid-is-J        : the value at a grid point is the scaled J there, taken fold² times
+--   grid-rows, rows-grid : and so are their weights
+--   scale-is         : the scale of level d is that of level 0 times the weight of a place over 2^d
+--   weight-times     : the weight of a place over n times as many parts
+--   grid-is-J        : the value at a grid point is the scaled J there, at the scale of the level
 --   bad-value, value-bad   : a point is bad exactly when the value is not positive
 --   shows-value, value-shows : the scaled J is the value
 -- For all kinds. Assumes nothing.
-use mathlib.Core.Path.{_≡_, refl, sym, _∙_, ap, subst}
-use mathlib.Core.List.{List, [], _∷_}
+use mathlib.Core.Path.{_≡_, refl, sym, _∙_, ap, ap₂, subst}
+use mathlib.Core.List.{List, [], _∷_, map}
 use Prim.Native.Nat.{ℕ, zero, suc, _+_, _*_, _-_, _^_, _≤_, _<_}
+use native.Mathlib.Nat as N
 use native.Mathlib.Omega.{arith}
 use lib.Dec.{lit<}
 use lib.IntN.{ℤ, pos, _*ℤ_, *ℤ-comm}
+use lib.Pow.{pow-pos}
 use lib.Signed.{_≤ℤ_, _<ℤ_}
+use Rattle.algebra.specs.Expr.{var, _⊗_}
 use Rattle.algebra.proofs.Ring.{1-*ℤ}
 use Rattle.algebra.proofs.Order.{0<pos, *ℤ-cancel, positive-transfer, nonpositive-transfer}
-use Rattle.forms.specs.Rows.{Row}
+use Rattle.algebra.proofs.Solve.{solve}
+use Rattle.forms.specs.Rows.{Row, total}
 use Rattle.forms.specs.Shapes.{Shape, scaled, Sized, Heavy, Point}
 use Rattle.forms.specs.Grids as G
 use Rattle.forms.specs.Triangles as T
@@ -25,21 +33,13 @@ use Rattle.forms.specs.Quads as Q
 use Rattle.forms.proofs.Triangles.{rows3}
 use Rattle.forms.proofs.Quads.{rows22}
 use Rattle.element.specs.Kinds.{Kind, six, eight, nine, scale}
-use Rattle.element.specs.Places.{InTriangle, InQuad, Place, OnGrid}
-use Rattle.element.specs.Jacobian.{J6, J8, J9, jacobian, gridJ, fold, Bad, Shows}
+use Rattle.element.specs.Places.{InTriangle, InQuad, Place, cube, weightOf, OnGrid, QuadAt, AtGrid}
+use Rattle.element.specs.Jacobian.{jacobian, fold, factor, Bad, Shows}
 use Rattle.element.specs.Control.{controlValues, sum6, sum9, controlSum}
-use Rattle.element.specs.Cells.{shapeOf}
+use Rattle.element.specs.Cells.{shapeOf, quadRows, rowsOf}
 use Rattle.element.proofs.Sums.{sum6-is-J, sum8-is-J, sum9-is-J, scaled-sum6, scaled-sum9}
 
 -- ---- places as weights
-abbrev pub quadRows : InQuad → List Row
-quadRows x = ((x .m - x .p) ∷ x .p ∷ []) ∷ ((x .n - x .q) ∷ x .q ∷ []) ∷ []
-
-abbrev pub rowsOf : (k : Kind) → Place k → List Row
-rowsOf six x = (x .p ∷ x .q ∷ x .r ∷ []) ∷ []
-rowsOf eight x = quadRows x
-rowsOf nine x = quadRows x
-
 quad-point : (x : InQuad) → Point Q.quad (quadRows x)
 quad-point x =
     let a = x .u-below in let b = x .v-below in let c = x .m-above in let d = x .n-above in
@@ -49,6 +49,14 @@ pub place-point : (k : Kind) (x : Place k) → Point (shapeOf k) (rowsOf k x)
 place-point six x = let h = x .some in record { sized = refl; heavy = (omega arith, tt) }
 place-point eight x = quad-point x
 place-point nine x = quad-point x
+
+-- rows by their weights
+one-row : {a b c a' b' c' : ℕ} → a ≡ a' → b ≡ b' → c ≡ c' → _≡_ {A = List Row} ((a ∷ b ∷ c ∷ []) ∷ []) ((a' ∷ b' ∷ c' ∷ []) ∷ [])
+one-row p q r = cc
+
+two-rows : {a b c d a' b' c' d' : ℕ} → a ≡ a' → b ≡ b' → c ≡ c' → d ≡ d'
+    → _≡_ {A = List Row} ((a ∷ b ∷ []) ∷ (c ∷ d ∷ []) ∷ []) ((a' ∷ b' ∷ []) ∷ (c' ∷ d' ∷ []) ∷ [])
+two-rows p q r s = cc
 
 abbrev Placed : (k : Kind) → List Row → Type 0
 Placed k ws = (x : Place k) × (rowsOf k x ≡ ws)
@@ -62,15 +70,10 @@ triangle-place ws h = let (x, y, z, e) = rows3 ws (h .sized) in go x y z e (subs
 quad-place : (ws : List Row) → Point Q.quad ws → (x : InQuad) × (quadRows x ≡ ws)
 quad-place ws h = let (a, b, c, d, e) = rows22 ws (h .sized) in go a b c d e (subst Heavy e (h .heavy))
   where
-    two-rows : {a b c d a' c' : ℕ} → a ≡ a'
-        → c ≡ c'
-        → _≡_ {A = List Row} ((a ∷ b ∷ []) ∷ (c ∷ d ∷ []) ∷ []) ((a' ∷ b ∷ []) ∷ (c' ∷ d ∷ []) ∷ [])
-    two-rows p q = cc
-
     go : (a b c d : ℕ) → ws ≡ (a ∷ b ∷ []) ∷ (c ∷ d ∷ []) ∷ [] → Heavy ((a ∷ b ∷ []) ∷ (c ∷ d ∷ []) ∷ []) → (x : InQuad) × (quadRows x ≡ ws)
     go a b c d e (p, (q, u)) = (
       record { p = b; m = a + b; q = d; n = c + d; u-below = omega arith; v-below = omega arith; m-above = omega arith; n-above = omega arith },
-      two-rows (omega arith) (omega arith) ∙ sym e,
+      two-rows (omega arith) refl (omega arith) refl ∙ sym e,
     )
 
 pub place-of : (k : Kind) (ws : List Row) → Point (shapeOf k) ws → Placed k ws
@@ -107,6 +110,18 @@ fold-above six = lit< tt
 fold-above eight = lit< tt
 fold-above nine = lit< tt
 
+-- the weight of a place is not zero
+cube-above : (n : ℕ) → 0 < n → 0 < cube n
+cube-above n h = N.mul-pos (N.mul-pos h h) h
+
+pub weight-above : (k : Kind) (x : Place k) → 0 < weightOf k x
+weight-above six x = N.mul-pos (x .some) (x .some)
+weight-above eight x = N.mul-pos (cube-above (x .m) (x .m-above)) (cube-above (x .n) (x .n-above))
+weight-above nine x = N.mul-pos (cube-above (x .m) (x .m-above)) (cube-above (x .n) (x .n-above))
+
+pub factor-above : (k : Kind) (x : Place k) → 0 < factor k x
+factor-above k x = N.mul-pos (fold-above k) (weight-above k x)
+
 pub scale-above : (k : Kind) → 0 < scale k 0
 scale-above six = lit< tt
 scale-above eight = lit< tt
@@ -119,6 +134,24 @@ positive-jacobian k xs x h =
     positive-transfer (fold k * fold k) (scale k 0) (scaled (shapeOf k) (controlValues k xs) (rowsOf k x)) (jacobian k xs x) (fold-above k) (scaled-is-J k xs x) h
 
 -- ---- grid points
+quad-grid : (d i j : ℕ) → (i ≤ 2 ^ d) × (j ≤ 2 ^ d) → (x : InQuad) × QuadAt d i j x
+quad-grid d i j (h, g) = (
+  record { p = i; m = 2 ^ d; q = j; n = 2 ^ d; u-below = h; v-below = g; m-above = pow-pos d; n-above = pow-pos d },
+  (refl, refl, refl, refl),
+)
+
+pub grid-place : (k : Kind) (d i j : ℕ) → OnGrid k d i j → (x : Place k) × AtGrid k d i j x
+grid-place six d i j h =
+    let t : 2 ^ d - i - j + i + j ≡ 2 ^ d = omega arith in
+    (record { p = 2 ^ d - i - j; q = i; r = j; some = rw t (pow-pos d) }, (refl, refl, t))
+grid-place eight d i j h = quad-grid d i j h
+grid-place nine d i j h = quad-grid d i j h
+
+pub place-grid : (k : Kind) (d i j : ℕ) (x : Place k) → AtGrid k d i j x → OnGrid k d i j
+place-grid six d i j x (a, b, c) = omega arith
+place-grid eight d i j x (a, b, c, e) = (omega (arith, x .u-below), omega (arith, x .v-below))
+place-grid nine d i j x (a, b, c, e) = (omega (arith, x .u-below), omega (arith, x .v-below))
+
 pub grid-on : (k : Kind) (d i j : ℕ) → OnGrid k d i j → G.OnGrid (shapeOf k) d i j
 grid-on six d i j h = record { row-in = omega arith; column-in = omega arith }
 grid-on eight d i j (h, g) = record { row-in = g; column-in = h }
@@ -129,35 +162,131 @@ on-grid six d i j g = let r = g .row-in in let c = g .column-in in omega arith
 on-grid eight d i j g = (g .column-in, g .row-in)
 on-grid nine d i j g = (g .column-in, g .row-in)
 
+quad-rows : (d i j : ℕ) (x : InQuad) → QuadAt d i j x → quadRows x ≡ G.gridPoint Q.quad d i j
+quad-rows d i j x (a, b, c, e) = two-rows (omega arith) a (omega arith) c
+
+pub grid-rows : (k : Kind) (d i j : ℕ) (x : Place k) → AtGrid k d i j x → rowsOf k x ≡ G.gridPoint (shapeOf k) d i j
+grid-rows six d i j x (a, b, c) = one-row (omega arith) a b
+grid-rows eight d i j x h = quad-rows d i j x h
+grid-rows nine d i j x h = quad-rows d i j x h
+
+quad-rows-at : (d i j : ℕ) (x : InQuad) → (i ≤ 2 ^ d) × (j ≤ 2 ^ d) → quadRows x ≡ G.gridPoint Q.quad d i j → QuadAt d i j x
+quad-rows-at d i j x (h, g) e =
+    let a : x .p ≡ i = cc in let b : x .q ≡ j = cc in
+    let m : x .m - x .p ≡ 2 ^ d - i = cc in let n : x .n - x .q ≡ 2 ^ d - j = cc in
+    (a, omega (arith, x .u-below), b, omega (arith, x .v-below))
+
+pub rows-grid : (k : Kind) (d i j : ℕ) (x : Place k) → OnGrid k d i j → rowsOf k x ≡ G.gridPoint (shapeOf k) d i j → AtGrid k d i j x
+rows-grid six d i j x o e =
+    let a : x .q ≡ i = cc in let b : x .r ≡ j = cc in let c : x .p ≡ 2 ^ d - i - j = cc in (a, b, omega arith)
+rows-grid eight d i j x o e = quad-rows-at d i j x o e
+rows-grid nine d i j x o e = quad-rows-at d i j x o e
+
+-- ---- the scale of a level
+-- the weight of a place over n: ξ and η, or u and v, are fractions of n parts
+abbrev pub over : Kind → ℕ → ℕ
+over six n = n * n
+over eight n = cube n * cube n
+over nine n = cube n * cube n
+
+pub power-* : (a b d : ℕ) → (a * b) ^ d ≡ a ^ d * b ^ d
+power-* a b zero = rw (N.pow-zero (a * b), N.pow-zero a, N.pow-zero b)
+power-* a b (suc d) = rw (N.pow-suc (a * b) d, N.pow-suc a d, N.pow-suc b d, power-* a b d) (swap (a ^ d) (b ^ d))
+  where
+    swap : (x y : ℕ) → x * y * (a * b) ≡ x * a * (y * b)
+    swap x y = omega arith
+
+four-is : (d : ℕ) → 4 ^ d ≡ 2 ^ d * 2 ^ d
+four-is d = power-* 2 2 d
+
+eight-is : (d : ℕ) → 8 ^ d ≡ cube (2 ^ d)
+eight-is d = power-* 4 2 d ∙ ap (λ (n : ℕ). n * 2 ^ d) (four-is d)
+
+quad-scale : (d : ℕ) → 36 * 64 ^ d ≡ 36 * 64 ^ 0 * (cube (2 ^ d) * cube (2 ^ d))
+quad-scale d = ap (λ (n : ℕ). 36 * n) (power-* 8 8 d ∙ ap (λ (n : ℕ). n * n) (eight-is d))
+
+pub scale-is : (k : Kind) (d : ℕ) → scale k d ≡ scale k 0 * over k (2 ^ d)
+scale-is six d = ap (λ (n : ℕ). 2 * n) (four-is d)
+scale-is eight d = quad-scale d
+scale-is nine d = quad-scale d
+
+grid-weight : (k : Kind) (d i j : ℕ) (x : Place k) → AtGrid k d i j x → weightOf k x ≡ over k (2 ^ d)
+grid-weight six d i j x (a, b, c) = ap (λ (n : ℕ). n * n) c
+grid-weight eight d i j x (a, b, c, e) = ap₂ (λ (m n : ℕ). cube m * cube n) b e
+grid-weight nine d i j x (a, b, c, e) = ap₂ (λ (m n : ℕ). cube m * cube n) b e
+
+-- a place over n times as many parts
+quad-times : (n : ℕ) (x y : InQuad) → map total (quadRows y) ≡ map (λ h. n * h) (map total (quadRows x))
+    → cube (y .m) * cube (y .n) ≡ cube n * cube n * (cube (x .m) * cube (x .n))
+quad-times n x y e =
+    let a : y .m - y .p + (y .p + 0) ≡ n * (x .m - x .p + (x .p + 0)) = cc in
+    let b : y .n - y .q + (y .q + 0) ≡ n * (x .n - x .q + (x .q + 0)) = cc in
+    ap₂ (λ (p q : ℕ). cube p * cube q) (side (y .m) (y .p) (x .m) (x .p) (y .u-below) (x .u-below) a) (side (y .n) (y .q) (x .n) (x .q) (y .v-below) (x .v-below) b)
+    ∙ apart (x .m) (x .n)
+  where
+    side : (m p m' p' : ℕ) → p ≤ m → p' ≤ m' → m - p + (p + 0) ≡ n * (m' - p' + (p' + 0)) → m ≡ n * m'
+    side m p m' p' h h' e =
+        let f : m - p + (p + 0) ≡ m = omega arith in let g : m' - p' + (p' + 0) ≡ m' = omega arith in
+        sym f ∙ e ∙ ap (λ (q : ℕ). n * q) g
+
+    apart : (a b : ℕ) → cube (n * a) * cube (n * b) ≡ cube n * cube n * (cube a * cube b)
+    apart a b = omega arith
+
+pub weight-times : (k : Kind) (n : ℕ) (x y : Place k) → map total (rowsOf k y) ≡ map (λ h. n * h) (map total (rowsOf k x))
+    → weightOf k y ≡ over k n * weightOf k x
+weight-times six n x y e =
+    let a : y .p + (y .q + (y .r + 0)) ≡ n * (x .p + (x .q + (x .r + 0))) = cc in
+    let f : y .p + y .q + y .r ≡ y .p + (y .q + (y .r + 0)) = omega arith in
+    let g : x .p + (x .q + (x .r + 0)) ≡ x .p + x .q + x .r = omega arith in
+    ap (λ (w : ℕ). w * w) (f ∙ a ∙ ap (λ (w : ℕ). n * w) g) ∙ apart (x .p + x .q + x .r)
+  where
+    apart : (w : ℕ) → n * w * (n * w) ≡ n * n * (w * w)
+    apart w = omega arith
+weight-times eight n x y e = quad-times n x y e
+weight-times nine n x y e = quad-times n x y e
+
+-- an equation of scaled numbers, with both scales grown
+pub grow-both : (a b w : ℕ) (x y : ℤ) → pos a *ℤ x ≡ pos b *ℤ y → pos (a * w) *ℤ x ≡ pos (b * w) *ℤ y
+grow-both a b w x y e = out a x ∙ ap (λ z. z *ℤ pos w) e ∙ sym (out b y)
+  where
+    out : (a : ℕ) (x : ℤ) → pos (a * w) *ℤ x ≡ pos a *ℤ x *ℤ pos w
+    out a x = solve (pos a ∷ pos w ∷ x ∷ []) (var 0 ⊗ var 1 ⊗ var 2) (var 0 ⊗ var 2 ⊗ var 1) tt
+
 abbrev pub gridValue : Kind → List ℤ → ℕ → ℕ → ℕ → ℤ
 gridValue k xs d i j = scaled (shapeOf k) (controlValues k xs) (G.gridPoint (shapeOf k) d i j)
 
-pub grid-is-J : (k : Kind) (xs : List ℤ) (d i j : ℕ) → OnGrid k d i j
-    → pos (fold k * fold k) *ℤ gridValue k xs d i j ≡ pos (scale k 0) *ℤ gridJ k xs d i j
-unfolding controlValues
-grid-is-J six xs d i j h =
-    1-*ℤ (gridValue six xs d i j) ∙ scaled-sum6 (controlValues six xs) (2 ^ d - i - j) i j ∙ sum6-is-J xs (2 ^ d - i - j) i j
-grid-is-J eight xs d i j (h, g) =
-    ap (λ z. pos 16 *ℤ z) (quad-sum (controlValues eight xs) i (2 ^ d) j (2 ^ d) h g) ∙ sum8-is-J xs i (2 ^ d) j (2 ^ d)
-grid-is-J nine xs d i j (h, g) =
-    1-*ℤ (gridValue nine xs d i j) ∙ quad-sum (controlValues nine xs) i (2 ^ d) j (2 ^ d) h g ∙ sum9-is-J xs i (2 ^ d) j (2 ^ d)
-
 module _ (k : Kind) (xs : List ℤ) (d i j : ℕ) where
+  value-here : (x : Place k) → AtGrid k d i j x → scaled (shapeOf k) (controlValues k xs) (rowsOf k x) ≡ gridValue k xs d i j
+  value-here x a = ap (scaled (shapeOf k) (controlValues k xs)) (grid-rows k d i j x a)
+
+  pub grid-is-J : (x : Place k) → AtGrid k d i j x → pos (factor k x) *ℤ gridValue k xs d i j ≡ pos (scale k d) *ℤ jacobian k xs x
+  grid-is-J x a =
+      grow-both (fold k * fold k) (scale k 0) (weightOf k x) (gridValue k xs d i j) (jacobian k xs x)
+      (ap (λ z. pos (fold k * fold k) *ℤ z) (sym (value-here x a)) ∙ scaled-is-J k xs x)
+      ∙ ap (λ (n : ℕ). pos n *ℤ jacobian k xs x) (ap (λ (n : ℕ). scale k 0 * n) (grid-weight k d i j x a) ∙ sym (scale-is k d))
+
   pub bad-value : Bad k xs d i j → G.OnGrid (shapeOf k) d i j × (gridValue k xs d i j ≤ℤ pos 0)
   bad-value b = (
-    grid-on k d i j (b .on-grid),
-    nonpositive-transfer (scale k 0) (fold k * fold k) (gridJ k xs d i j) (gridValue k xs d i j) (fold-above k) (sym (grid-is-J k xs d i j (b .on-grid))) (b .not-positive),
+    grid-on k d i j (place-grid k d i j (b .place) (b .at-point)),
+    nonpositive-transfer (scale k 0) (fold k * fold k) (jacobian k xs (b .place)) (gridValue k xs d i j) (fold-above k)
+        (sym (scaled-is-J k xs (b .place)) ∙ ap (λ z. pos (fold k * fold k) *ℤ z) (value-here (b .place) (b .at-point)))
+        (b .not-positive),
   )
 
   pub value-bad : G.OnGrid (shapeOf k) d i j → gridValue k xs d i j ≤ℤ pos 0 → Bad k xs d i j
   value-bad g h =
-      let o : OnGrid k d i j = on-grid k d i j g in
-      record { on-grid = o; not-positive = nonpositive-transfer (fold k * fold k) (scale k 0) (gridValue k xs d i j) (gridJ k xs d i j) (scale-above k) (grid-is-J k xs d i j o) h }
+      let (x, a) = grid-place k d i j (on-grid k d i j g) in
+      record {
+        place = x;
+        at-point = a;
+        not-positive = nonpositive-transfer (fold k * fold k) (scale k 0) (scaled (shapeOf k) (controlValues k xs) (rowsOf k x)) (jacobian k xs x)
+            (scale-above k) (scaled-is-J k xs x) (rw (value-here x a) h);
+      }
 
   pub value-shows : OnGrid k d i j → Shows k xs d i j (gridValue k xs d i j)
-  value-shows o = grid-is-J k xs d i j o
+  value-shows o = let (x, a) = grid-place k d i j o in record { place = x; at-point = a; shown = grid-is-J x a }
 
-  pub shows-value : OnGrid k d i j → (z : ℤ) → Shows k xs d i j z → z ≡ gridValue k xs d i j
-  shows-value o z s =
-      let f : ℤ = pos (fold k * fold k) in let v : ℤ = gridValue k xs d i j in
-      *ℤ-cancel z v f (0<pos (fold-above k)) (*ℤ-comm z f ∙ s ∙ sym (grid-is-J k xs d i j o) ∙ *ℤ-comm f v)
+  pub shows-value : (z : ℤ) → Shows k xs d i j z → z ≡ gridValue k xs d i j
+  shows-value z s =
+      let f : ℤ = pos (factor k (s .place)) in let v : ℤ = gridValue k xs d i j in
+      *ℤ-cancel z v f (0<pos (factor-above k (s .place))) (*ℤ-comm z f ∙ s .shown ∙ sym (grid-is-J (s .place) (s .at-point)) ∙ *ℤ-comm f v)

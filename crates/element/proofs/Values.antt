@@ -2,12 +2,15 @@
 --   shape-lawful, shape-readable : the shapes of the kinds
 --   values-length    : an element of a kind has the kind's number of values
 --   values-only      : any list of that many whole numbers whose sum is the scaled J at all places is the list of control values
---   cell-is-J        : the values of a cell of level d are J on that cell, at the scale of the level
---   corner-shows     : a corner value of a cell of level d is the scaled J at its grid point
+--   lies-at          : each place of a cell is a place of the element
+--   cell-is-J        : the values of a cell of level d are J on that cell, at the scale of level d
+--   corner-shows     : a corner value of a cell of level d is the scaled J at the grid point of that corner
+--   corner-point     : which is where the corner lies
 -- For all kinds. Assumes nothing.
 use mathlib.Core.Path.{_≡_, refl, sym, _∙_, ap, subst}
 use mathlib.Core.List.{List, [], _∷_, map}
-use Prim.Native.Nat.{ℕ, _+_, _*_, _^_, _<_}
+use Prim.Native.Nat.{ℕ, _*_, _^_, _<_}
+use native.Mathlib.Nat as N
 use lib.Dec.{T}
 use lib.IntN.{ℤ, pos, _*ℤ_, *ℤ-comm}
 use lib.ListN.{length}
@@ -15,19 +18,18 @@ use Rattle.algebra.proofs.Order.{0<pos, *ℤ-cancel}
 use Rattle.forms.specs.Rows.{Row, total}
 use Rattle.forms.specs.Cuttings.{Four}
 use Rattle.forms.specs.Shapes.{scaled, tip, cornerValue, Point, Lawful}
-use Rattle.forms.specs.Grids.{inWhole, gridPoint}
+use Rattle.forms.specs.Grids.{inWhole, cornerColumn, cornerRow}
 use Rattle.forms.specs.Polar.{readable}
-use Rattle.forms.proofs.Shapes.{adds-heavy}
 use Rattle.forms.proofs.Grids.{inWhole-sized, inWhole-adds, inWhole-heavy, value-cell, corner-value, corner-grid}
 use Rattle.forms.proofs.Triangles.{six-lawful}
 use Rattle.forms.proofs.Quads.{quad-lawful}
 use Rattle.forms.proofs.Polar.{stored-only, six-readable, quad-readable}
 use Rattle.element.specs.Kinds.{Kind, six, eight, nine, valueCount, scale}
-use Rattle.element.specs.Places.{Place, OnGrid}
-use Rattle.element.specs.Jacobian.{jacobian, fold, Shows}
+use Rattle.element.specs.Places.{Place, weightOf, AtGrid}
+use Rattle.element.specs.Jacobian.{jacobian, fold, factor, Shows}
 use Rattle.element.specs.Control.{values6, controlValues, controlSum}
-use Rattle.element.specs.Cells.{shapeOf, cell}
-use Rattle.element.proofs.Places.{rowsOf, place-point, place-of, scaled-control, control-is-J, scaled-is-J, fold-above, on-grid, gridValue, value-shows}
+use Rattle.element.specs.Cells.{shapeOf, rowsOf, cell, LiesAt}
+use Rattle.element.proofs.Places.{place-point, place-of, scaled-control, control-is-J, scaled-is-J, fold-above, on-grid, rows-grid, over, scale-is, weight-times, grow-both, value-shows}
 
 pub shape-lawful : (k : Kind) → Lawful (shapeOf k)
 shape-lawful six = six-lawful
@@ -71,37 +73,48 @@ values-only k xs c l f =
         subst (λ (v : List Row). scaled (shapeOf k) c v ≡ scaled (shapeOf k) (controlValues k xs) v) e (at-place x)
 
 -- ---- the cells of each level
--- y is the place of the element at which the place x of the cell lies
-pub record LiesAt (k : Kind) (path : List Four) (x y : Place k) : Type 0 where
-  pub rows : rowsOf k y ≡ inWhole (shapeOf k) path (rowsOf k x)
-  pub totals : map total (rowsOf k y) ≡ map (λ h. 2 ^ length path * h) (map total (rowsOf k x))
-
 pub lies-at : (k : Kind) (path : List Four) (x : Place k) → (y : Place k) × LiesAt k path x y
 lies-at k path x =
     let h = place-point k x in
-    let ws : List Row = inWhole (shapeOf k) path (rowsOf k x) in
-    let a = inWhole-adds (shapeOf k) (shape-lawful k) path (rowsOf k x) (h .sized) in
-    let (y, e) = place-of k ws (record { sized = inWhole-sized (shapeOf k) (shape-lawful k) path (rowsOf k x) (h .sized); heavy = inWhole-heavy (shapeOf k) (shape-lawful k) path (rowsOf k x) (h .sized) (h .heavy) }) in
-    (y, record { rows = e; totals = ap (map total) e ∙ a })
+    place-of k (inWhole (shapeOf k) path (rowsOf k x))
+    (record {
+      sized = inWhole-sized (shapeOf k) (shape-lawful k) path (rowsOf k x) (h .sized);
+      heavy = inWhole-heavy (shapeOf k) (shape-lawful k) path (rowsOf k x) (h .sized) (h .heavy);
+    })
+
+-- the place in the element is a fraction of 2^d times as many parts as the place in the cell
+lies-weight : (k : Kind) (path : List Four) (x y : Place k) → LiesAt k path x y
+    → scale k 0 * weightOf k y ≡ scale k (length path) * weightOf k x
+lies-weight k path x y l =
+    ap (λ (n : ℕ). scale k 0 * n) (weight-times k (2 ^ length path) x y (ap (map total) l ∙ inWhole-adds (shapeOf k) (shape-lawful k) path (rowsOf k x) (place-point k x .sized)))
+    ∙ sym (N.mul-assoc (scale k 0) (over k (2 ^ length path)) (weightOf k x))
+    ∙ ap (λ (n : ℕ). n * weightOf k x) (sym (scale-is k (length path)))
 
 pub cell-is-J : (k : Kind) (xs : List ℤ) (path : List Four) (x y : Place k) → LiesAt k path x y
-    → pos (fold k * fold k) *ℤ controlSum k (cell k path (controlValues k xs)) x ≡ pos (scale k 0) *ℤ jacobian k xs y
+    → pos (factor k y) *ℤ controlSum k (cell k path (controlValues k xs)) x ≡ pos (scale k (length path) * weightOf k x) *ℤ jacobian k xs y
 cell-is-J k xs path x y l =
-    ap (λ z. pos (fold k * fold k) *ℤ z)
+    grow-both (fold k * fold k) (scale k 0) (weightOf k y) (controlSum k (cell k path (controlValues k xs)) x) (jacobian k xs y)
+    (ap (λ z. pos (fold k * fold k) *ℤ z)
     (sym (scaled-control k (cell k path (controlValues k xs)) x)
     ∙ value-cell (shapeOf k) (shape-lawful k) path (controlValues k xs) (rowsOf k x) (place-point k x .sized)
-    ∙ ap (scaled (shapeOf k) (controlValues k xs)) (sym (l .rows)))
-    ∙ scaled-is-J k xs y
+    ∙ ap (scaled (shapeOf k) (controlValues k xs)) (sym l))
+    ∙ scaled-is-J k xs y)
+    ∙ ap (λ (n : ℕ). pos n *ℤ jacobian k xs y) (lies-weight k path x y l)
 
 pub corner-shows : (k : Kind) (xs : List ℤ) (path : List Four) (c : ℕ) → c < length (shapeOf k .corners)
-    → (i : ℕ) × (j : ℕ) × OnGrid k (length path) i j × Shows k xs (length path) i j (cornerValue (shapeOf k) c (cell k path (controlValues k xs)))
+    → Shows k xs (length path) (cornerColumn (shapeOf k) path c) (cornerRow (shapeOf k) path c) (cornerValue (shapeOf k) c (cell k path (controlValues k xs)))
 corner-shows k xs path c h =
-    let (i, j, g, e) = corner-grid (shapeOf k) (shape-lawful k) path c h in
-    let o : OnGrid k (length path) i j = on-grid k (length path) i j g in (
-      i,
-      j,
-      o,
-      subst (Shows k xs (length path) i j)
-          (ap (scaled (shapeOf k) (controlValues k xs)) e ∙ sym (corner-value (shapeOf k) (shape-lawful k) path (controlValues k xs) c h))
-          (value-shows k xs (length path) i j o),
-    )
+    let (g, e) = corner-grid (shapeOf k) (shape-lawful k) path c h in
+    subst (Shows k xs (length path) (cornerColumn (shapeOf k) path c) (cornerRow (shapeOf k) path c))
+    (ap (scaled (shapeOf k) (controlValues k xs)) e ∙ sym (corner-value (shapeOf k) (shape-lawful k) path (controlValues k xs) c h))
+    (value-shows k xs (length path) (cornerColumn (shapeOf k) path c) (cornerRow (shapeOf k) path c) (on-grid k (length path) _ _ g))
+
+-- a place of the cell with the corner's weights lies at that grid point
+pub corner-point : (k : Kind) (path : List Four) (c : ℕ) (x y : Place k) → c < length (shapeOf k .corners)
+    → rowsOf k x ≡ tip (shapeOf k) c
+    → LiesAt k path x y
+    → AtGrid k (length path) (cornerColumn (shapeOf k) path c) (cornerRow (shapeOf k) path c) y
+corner-point k path c x y h t l =
+    let (g, e) = corner-grid (shapeOf k) (shape-lawful k) path c h in
+    rows-grid k (length path) (cornerColumn (shapeOf k) path c) (cornerRow (shapeOf k) path c) y (on-grid k (length path) _ _ g)
+    (l ∙ ap (inWhole (shapeOf k) path) t ∙ sym e)

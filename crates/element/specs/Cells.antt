@@ -1,30 +1,37 @@
--- The cells of an element: quarters, the sign test, levels and cuttings (01, "Cutting a cell", "The sign test and the
--- verdict"), by the shape of its kind.
+-- The cells of an element (01, "Cutting a cell", "The sign test and the verdict"), by the shape of its kind.
 --   shapeOf k       == the shape: a triangle of degree 2, or a quad of bidegree (3, 3)
---   quarter k i c   == quarter i of the cell with the values c
---   passes k c      == the cell passes the sign test
---   cell k path c   == the cell of c that the quarters of the path lead to
+--   rowsOf k x      == the place x as weights of the shape, a row for each direction
+--   cell k path c   == the cell of c that the quarters of the path lead to; its level is the path's length
+--   LiesAt k path x y == the place x of that cell is the place y of the element
 -- Definitions only.
-use mathlib.Core.List.{List}
-use lib.Dec.{T}
+use mathlib.Core.Path.{_≡_}
+use mathlib.Core.List.{List, [], _∷_}
+use Prim.Native.Nat.{_-_}
 use lib.IntN.{ℤ}
+use Rattle.forms.specs.Rows.{Row}
 use Rattle.forms.specs.Cuttings.{Four}
-use Rattle.forms.specs.Shapes.{Shape, pass, cutTo}
-use Rattle.forms.specs.Grids.{cellAt}
+use Rattle.forms.specs.Shapes.{Shape}
+use Rattle.forms.specs.Grids.{cellAt, inWhole}
 use Rattle.forms.specs.Triangles as T
 use Rattle.forms.specs.Quads.{quad}
 use Rattle.element.specs.Kinds.{Kind, six, eight, nine}
+use Rattle.element.specs.Places.{InQuad, Place}
 
 abbrev pub shapeOf : Kind → Shape
 shapeOf six = T.six
 shapeOf eight = quad
 shapeOf nine = quad
 
-abbrev pub quarter : Kind → Four → List ℤ → List ℤ
-quarter k i c = cutTo (shapeOf k) i c
+abbrev pub quadRows : InQuad → List Row
+quadRows x = ((x .m - x .p) ∷ x .p ∷ []) ∷ ((x .n - x .q) ∷ x .q ∷ []) ∷ []
 
-abbrev pub passes : Kind → List ℤ → Type 0
-passes k c = T (pass (shapeOf k) c)
+abbrev pub rowsOf : (k : Kind) → Place k → List Row
+rowsOf six x = (x .p ∷ x .q ∷ x .r ∷ []) ∷ []
+rowsOf eight x = quadRows x
+rowsOf nine x = quadRows x
 
 abbrev pub cell : Kind → List Four → List ℤ → List ℤ
 cell k path c = cellAt (shapeOf k) path c
+
+abbrev pub LiesAt : (k : Kind) → List Four → Place k → Place k → Type 0
+LiesAt k path x y = rowsOf k y ≡ inWhole (shapeOf k) path (rowsOf k x)

@@ -7,22 +7,22 @@
 --   J9 xs p m q n             == their determinant for nine nodes, m³n³·J
 --   fourfold8 xs i j          == four times the nodes of an eight-node quad, its centre the mean of the edge nodes
 --   J8 xs p m q n             == the determinant of both slopes taken fourfold, 16·m³n³·J
---   jacobian k xs x           == the determinant at the place x of an element of kind k: J times a positive number
---   gridJ k xs d i j          == the determinant at the grid point (i, j) of level d
+--   jacobian k xs x           == the determinant at the place x of an element of kind k
 --   fold k                    == how many fold the slopes are taken: 4 for eight nodes, else 1
---   Bad k xs d i j            == J is not positive at that grid point
---   Shows k xs d i j z        == z is J there times the scale of the level, without division
+--   factor k x                == jacobian k xs x is so many times J at the place x: fold² times w², or m³n³
+--   Bad k xs d i j            == J is not positive at the point (i, j) of the grid of level d
+--   Shows k xs d i j z        == z is J at that point times the scale of level d, without division
 -- Definitions only.
 use mathlib.Core.Path.{_≡_}
 use mathlib.Core.Bool.{cond, _&&_}
 use mathlib.Core.List.{List}
-use Prim.Native.Nat.{ℕ, zero, suc, _+_, _*_, _-_, _^_, _≤_, _<_}
+use Prim.Native.Nat.{ℕ, zero, suc, _*_}
 use lib.Dec.{eqb}
 use lib.IntN.{ℤ, pos, _+ℤ_, _-ℤ_, _*ℤ_}
 use lib.Signed.{_≤ℤ_}
 use Rattle.element.specs.Kinds.{Kind, six, eight, nine, scale}
 use Rattle.element.specs.Plane.{Vec, _+ᵥ_, _-ᵥ_, _*ᵥ_, det, sumᵥ}
-use Rattle.element.specs.Places.{Place, OnGrid}
+use Rattle.element.specs.Places.{Place, weightOf, AtGrid}
 use Rattle.element.specs.Nodes.{A0, A1, A2, M01, M12, M02, A9, A8}
 
 -- ---- triangle
@@ -77,22 +77,23 @@ jacobian six xs x = J6 xs (x .p) (x .q) (x .r)
 jacobian eight xs x = J8 xs (x .p) (x .m) (x .q) (x .n)
 jacobian nine xs x = J9 xs (x .p) (x .m) (x .q) (x .n)
 
-abbrev pub gridJ : Kind → List ℤ → ℕ → ℕ → ℕ → ℤ
-gridJ six xs d i j = J6 xs (2 ^ d - i - j) i j
-gridJ eight xs d i j = J8 xs i (2 ^ d) j (2 ^ d)
-gridJ nine xs d i j = J9 xs i (2 ^ d) j (2 ^ d)
-
 -- "for kind 8, A11 is the stated centre and both are taken fourfold"
 abbrev pub fold : Kind → ℕ
 fold six = 1
 fold eight = 4
 fold nine = 1
 
--- "A point is bad when J ≤ 0 there": gridJ is J times a positive number
-pub record Bad (k : Kind) (xs : List ℤ) (d i j : ℕ) : Type 0 where
-  pub on-grid : OnGrid k d i j
-  pub not-positive : gridJ k xs d i j ≤ℤ pos 0
+abbrev pub factor : (k : Kind) → Place k → ℕ
+factor k x = fold k * fold k * weightOf k x
 
--- gridJ is 4^d·J for six nodes, 64^d·J for nine, and 4²·64^d·J for eight
-abbrev pub Shows : Kind → List ℤ → ℕ → ℕ → ℕ → ℤ → Type 0
-Shows k xs d i j z = pos (fold k * fold k) *ℤ z ≡ pos (scale k 0) *ℤ gridJ k xs d i j
+-- "A point is bad when J ≤ 0 there"
+pub record Bad (k : Kind) (xs : List ℤ) (d i j : ℕ) : Type 0 where
+  pub place : Place k
+  pub at-point : AtGrid k d i j place
+  pub not-positive : jacobian k xs place ≤ℤ pos 0
+
+-- "the scaled J there", with the table's "scale at level d"
+pub record Shows (k : Kind) (xs : List ℤ) (d i j : ℕ) (z : ℤ) : Type 0 where
+  pub place : Place k
+  pub at-point : AtGrid k d i j place
+  pub shown : pos (factor k place) *ℤ z ≡ pos (scale k d) *ℤ jacobian k xs place

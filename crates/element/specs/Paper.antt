@@ -4,12 +4,17 @@
 --   Q xs i j k      == twice the control point P_ijk of the triangle
 --   Δ100, Δ010 xs i j k == the differences at Q_ijk
 --   multinomial i j k == (i + j + k)! / (i! j! k!), for degrees 1 and 2
---   relation24 xs I J K == the sum of relation 24 over the doubled points: C²_IJK·N_IJK, since 4·|ΔP ΔP| = |ΔQ ΔQ|
---   relation27 R I J == the sum of relation 27 over the fourfold points: 4·C³_I·C³_J·N_IJ, since 16·|ΔP ΔP| = |ΔR ΔR|
+--   relation24 xs I J K == the sum of relation 24, over the doubled points
+--   Times24 s xs I J K c == c is s times the coefficient N_IJK of relation 24
+--   relation27 R I J == the sum of relation 27, over the fourfold points
+--   Times27 s R I J c == c is s times the coefficient N_IJ of relation 27
+-- A division of the paper is said as a multiplication of the other side. Its points are P, so that 2²·|ΔP ΔP| = |ΔQ ΔQ| and
+-- 4²·|ΔP ΔP| = |ΔR ΔR|; its degree d is 2.
 -- Definitions only.
+use mathlib.Core.Path.{_≡_}
 use mathlib.Core.Bool.{cond, _&&_}
 use mathlib.Core.List.{List}
-use Prim.Native.Nat.{ℕ, zero, suc, _+_, _*_, _-_, _/_}
+use Prim.Native.Nat.{ℕ, zero, suc, _+_, _*_, _-_, _^_}
 use lib.Dec.{eqb}
 use lib.IntN.{ℤ, pos, _*ℤ_}
 use Rattle.forms.specs.Binomials.{choose}
@@ -42,9 +47,17 @@ relation24 xs I J K =
     cond ((eqb (i1 + i2) I && eqb (j1 + j2) J && eqb (k1 + k2) K) && (eqb (i1 + j1 + k1) 1 && eqb (i2 + j2 + k2) 1))
     (pos (multinomial i1 j1 k1 * multinomial i2 j2 k2) *ℤ det (Δ100 xs (i1 + 1) j1 k1) (Δ010 xs (i2 + 1) j2 k2)) (pos 0)))))))
 
+-- "N_IJK = d² · (the sum) / C²_IJK", over the points P
+abbrev pub Times24 : ℕ → List ℤ → ℕ → ℕ → ℕ → ℤ → Type 0
+Times24 s xs I J K c = pos (2 ^ 2 * multinomial I J K) *ℤ c ≡ pos (s * 2 ^ 2) *ℤ relation24 xs I J K
+
 -- over i1+i2 = I and j1+j2 = J with i1, j2 from 0 to 1 and i2, j1 from 0 to 2
 unfoldable pub relation27 : (ℕ → ℕ → Vec) → ℕ → ℕ → ℤ
 relation27 R I J =
     sum 2 (λ i1. sum 3 (λ i2. sum 3 (λ j1. sum 2 (λ j2.
     cond (eqb (i1 + i2) I && eqb (j1 + j2) J)
     (pos (choose 1 i1 * choose 2 i2 * choose 2 j1 * choose 1 j2) *ℤ det (α R i1 j1) (β R i2 j2)) (pos 0)))))
+
+-- "N_IJ = d² · (the sum) / (C³_I·C³_J)", over the points P
+abbrev pub Times27 : ℕ → (ℕ → ℕ → Vec) → ℕ → ℕ → ℤ → Type 0
+Times27 s R I J c = pos (4 ^ 2 * (choose 3 I * choose 3 J)) *ℤ c ≡ pos (s * 2 ^ 2) *ℤ relation27 R I J

@@ -6,7 +6,8 @@
 --   greedy-exists    : it is found whenever some cutting within the limit fits
 --   greedy-least     : no cutting that fits, of any depth, has fewer cells or is less deep
 --   level-cells, cells-level : a level passes exactly when each of its cells does
---   level-full       : then the cutting into all its cells fits
+--   level-fails      : where it does not, some cell of it does not
+--   level-full       : where it passes, the cutting into all its cells fits
 --   level-opens, opens-level : no open cell on a level exactly when it passes
 -- If the quarters of a cell that passes pass:
 --   level-up         : if a level passes, each deeper one does
@@ -24,7 +25,7 @@ use native.Mathlib.Nat as N
 use native.Mathlib.Omega.{arith}
 use lib.Dec.{T}
 use lib.ListN.{length}
-use Rattle.algebra.proofs.Truth.{T-and, and-T, T-true}
+use Rattle.algebra.proofs.Truth.{T-and, and-T, T-true, T-false}
 use Rattle.forms.specs.Cuttings.{Four, first, second, third, fourth, inFour, Cutting, keep, cut, leaves, depth, full, join, descend, Fits, level, opens, greedy}
 
 pub leaves-positive : (t : Cutting) → 1 ≤ leaves t
@@ -62,6 +63,17 @@ four-at f t =
     let (b, s) = T-and (f second) (f third && f fourth) r in
     let (c, d) = T-and (f third) (f fourth) s in
     all-at (λ i. T (f i)) (a, b, c, d)
+
+-- and where it fails, it fails of one
+four-fails : (f : Four → Bool) → ¬ T (inFour f) → (i : Four) × ¬ T (f i)
+four-fails f n = go (f first) refl (f second) refl (f third) refl (f fourth) refl
+  where
+    go : (a : Bool) → f first ≡ a → (b : Bool) → f second ≡ b → (c : Bool) → f third ≡ c → (d : Bool) → f fourth ≡ d → (i : Four) × ¬ T (f i)
+    go false p b q c r d s = (first, T-false (f first) p)
+    go true p false q c r d s = (second, T-false (f second) q)
+    go true p true q false r d s = (third, T-false (f third) r)
+    go true p true q true r false s = (fourth, T-false (f fourth) s)
+    go true p true q true r true s = absurd (n (rw (p, q, r, s) tt))
 
 -- the four of a cutting that is cut
 abbrev pub branch : Cutting → Four → Cutting
@@ -198,6 +210,15 @@ module _ {Cell : Type 0} (pass : Cell → Bool) (q : Four → Cell → Cell) whe
   cells-level zero v f = f [] refl
   cells-level (suc d) v f =
       four-level d v (make-all (λ i. T (level pass q d (q i v))) (λ i. cells-level d (q i v) (λ path e. f (i ∷ path) (ap suc e))))
+
+  pub level-fails : (d : ℕ) (v : Cell) → ¬ T (level pass q d v)
+      → (path : List Four) × (length path ≡ d) × ¬ T (pass (descend q path v))
+  unfolding level
+  level-fails zero v n = ([], refl, n)
+  level-fails (suc d) v n =
+      let (i, m) = four-fails (λ i. level pass q d (q i v)) n in
+      let (path, e, f) = level-fails d (q i v) m in
+      (i ∷ path, ap suc e, f)
 
   pub level-full : (d : ℕ) (v : Cell) → T (level pass q d v) → Fits pass q v (full d)
   unfolding level Quarters

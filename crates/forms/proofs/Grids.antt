@@ -19,7 +19,7 @@ use Rattle.forms.specs.Rows.{Row, total}
 use Rattle.forms.specs.Forms.{through, times}
 use Rattle.forms.specs.Cuttings.{Four}
 use Rattle.forms.specs.Shapes.{Shape, cutTo, scaled, tip, cornerValue, entry, Sized, Adds, Heavy, Point, sides, Lawful}
-use Rattle.forms.specs.Grids.{cellAt, inWhole, OnGrid, gridPoint}
+use Rattle.forms.specs.Grids.{cellAt, inWhole, OnGrid, gridPoint, cornerColumn, cornerRow}
 use Rattle.forms.proofs.Rows.{getD-⊙}
 use Rattle.forms.proofs.Shapes.{double, times-sized, times-adds, sides-heavy, through-sized, through-adds, scaled-cut, scaled-tip, tip-of, tip-sized, tip-adds, cutTo-size}
 
@@ -107,11 +107,12 @@ module _ (S : Shape) (W : Lawful S) where
   grid-corner d i j g = let (e, a) = W .on-grid (2 ^ d) i j (g .row-in) (g .column-in) in side-corner d (gridPoint S d i j) e a
 
   pub corner-grid : (path : List Four) (k : ℕ) → k < length (S .corners)
-      → (i : ℕ) × (j : ℕ) × OnGrid S (length path) i j × (gridPoint S (length path) i j ≡ inWhole S path (tip S k))
+      → OnGrid S (length path) (cornerColumn S path k) (cornerRow S path k)
+      × (gridPoint S (length path) (cornerColumn S path k) (cornerRow S path k) ≡ inWhole S path (tip S k))
   corner-grid path k h =
       let ws : List Row = inWhole S path (tip S k) in
       let (r, c, e) = W .indexed (2 ^ length path) ws (inWhole-sized path (tip S k) (tip-sized S W k h)) (corner-adds path k h) in
-      (entry (S .column) ws, entry (S .row) ws, record { row-in = r; column-in = c }, e)
+      (record { row-in = r; column-in = c }, e)
 
   pub grid-point : (d i j : ℕ) → OnGrid S d i j → Point S (gridPoint S d i j)
   grid-point d i j g =

@@ -1,5 +1,6 @@
 -- The quad of bidegree (3, 3) is a lawful shape.
 --   halve            : weights along a direction that add up to 2h are weights of one of the halves that add up to h
+--   sixteen-at       : of sixteen things f I J stands at place I + 4J
 --   quad-lawful      : the tables by the binomial rule are the form on the quarters, and each of their rows adds up to 64
 -- Assumes nothing.
 use mathlib.Core.Path.{_≡_, refl, sym, _∙_, ap, ap₂, subst₂}
@@ -7,12 +8,12 @@ use mathlib.Core.List.{List, [], _∷_, map}
 use Prim.Native.Nat.{ℕ, zero, suc, _+_, _*_, _-_, _≤_, _<_}
 use native.Mathlib.Omega.{arith}
 use native.Mathlib.Decide.{decLe}
-use lib.ListN.{length}
+use lib.ListN.{getD, length}
 use Rattle.forms.specs.Rows.{Row, mix, total}
 use Rattle.forms.specs.Forms.{through}
 use Rattle.forms.specs.Cuttings.{Four}
 use Rattle.forms.specs.Shapes.{entry, Sized, Adds, Lawful}
-use Rattle.forms.specs.Quads.{Half, lower, upper, ends, quarterOf, quad}
+use Rattle.forms.specs.Quads.{Half, lower, upper, ends, quarterOf, sixteen, quad}
 use Rattle.forms.proofs.Shapes.{double}
 
 abbrev two : ℕ → ℕ → Row
@@ -23,6 +24,23 @@ two-≡ e f = cc
 
 pair-≡ : {a b x y : ℕ} → a ≡ x → b ≡ y → _≡_ {A = List ℕ} (a ∷ b ∷ []) (x ∷ y ∷ [])
 pair-≡ e f = cc
+
+-- ---- sixteen things
+-- what holds of 0, 1, 2 and 3 holds of each number below 4
+below-four : (P : ℕ → Type 0) → P 0 → P 1 → P 2 → P 3 → (n : ℕ) → n < 4 → P n
+below-four P a b c d zero h = a
+below-four P a b c d (suc zero) h = b
+below-four P a b c d (suc (suc zero)) h = c
+below-four P a b c d (suc (suc (suc zero))) h = d
+below-four P a b c d (suc (suc (suc (suc n)))) h = absurd (omega arith)
+
+pub sixteen-at : {A : Type 0} (f : ℕ → ℕ → A) (z : A) (I J : ℕ) → I < 4 → J < 4 → getD (sixteen f) (I + 4 * J) z ≡ f I J
+sixteen-at f z I J h k =
+    below-four (λ I. getD (sixteen f) (I + 4 * J) z ≡ f I J)
+    (below-four (λ J. getD (sixteen f) (0 + 4 * J) z ≡ f 0 J) refl refl refl refl J k)
+    (below-four (λ J. getD (sixteen f) (1 + 4 * J) z ≡ f 1 J) refl refl refl refl J k)
+    (below-four (λ J. getD (sixteen f) (2 + 4 * J) z ≡ f 2 J) refl refl refl refl J k)
+    (below-four (λ J. getD (sixteen f) (3 + 4 * J) z ≡ f 3 J) refl refl refl refl J k) I h
 
 -- ---- the halves cover a direction
 abbrev Halved : ℕ → ℕ → ℕ → Type 0

@@ -4,6 +4,7 @@
 --   inWhole path ys  == the point ys of that cell, as weights of the whole element
 --   OnGrid d i j     == (i, j) is a point of the grid of level d
 --   gridPoint d i j  == its weights
+--   cornerColumn, cornerRow path k == the column and the row, on the grid of its level, of corner k of the cell of the path
 -- Definitions only.
 use mathlib.Core.List.{List, [], _∷_}
 use Prim.Native.Nat.{ℕ, _^_, _≤_}
@@ -11,7 +12,7 @@ use lib.IntN.{ℤ}
 use Rattle.forms.specs.Rows.{Row}
 use Rattle.forms.specs.Forms.{through}
 use Rattle.forms.specs.Cuttings.{Four, descend}
-use Rattle.forms.specs.Shapes.{Shape, cutTo}
+use Rattle.forms.specs.Shapes.{Shape, entry, cutTo, tip}
 
 module _ (S : Shape) where
   abbrev pub cellAt : List Four → List ℤ → List ℤ
@@ -27,3 +28,9 @@ module _ (S : Shape) where
 
   abbrev pub gridPoint : ℕ → ℕ → ℕ → List Row
   gridPoint d i j = S .rows (2 ^ d) i j
+
+  abbrev pub cornerColumn : List Four → ℕ → ℕ
+  cornerColumn path k = entry (S .column) (inWhole path (tip S k))
+
+  abbrev pub cornerRow : List Four → ℕ → ℕ
+  cornerRow path k = entry (S .row) (inWhole path (tip S k))

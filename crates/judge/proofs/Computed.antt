@@ -19,8 +19,8 @@ use Rattle.forms.specs.Cuttings.{Cutting, leaves, depth, full, level, opens, gr
 use Rattle.forms.specs.Shapes.{pass, cutTo}
 use Rattle.forms.specs.Grids.{OnGrid}
 use Rattle.forms.proofs.Cuttings.{depth-full, level-full, greedy-exists, greedy-fits, greedy-least}
-use Rattle.judge.specs.Verdict.{valid, invalid, undecided, Answer, Subject, AllPass, LeastCells, Valid, Invalid, Undecided, Judges}
-use Rattle.judge.proofs.Faithful.{valueAt, Faithful}
+use Rattle.judge.specs.Verdict.{Answer, is-valid, is-invalid, is-undecided, Subject, AllPass, LeastCells, Judges}
+use Rattle.judge.specs.Faithful.{valueAt, Faithful}
 use Rattle.judge.proofs.Levels.{Level, passes-level, level-passes, passes-up}
 use Rattle.judge.proofs.Search.{least, IsLeast, least-is}
 
@@ -39,15 +39,6 @@ module _ (s : Subject) where
   firstRow d = least (λ j. rowLow d j) 0 (suc (2 ^ d))
 
   -- ---- the answers
-  abbrev pub toldValid : ℕ → ℕ → Answer
-  toldValid d m = record { word = valid; level = d; i = 0; j = 0; value = pos 0; cells = m }
-
-  abbrev pub toldInvalid : ℕ → ℕ → ℕ → Answer
-  toldInvalid d i j = record { word = invalid; level = d; i = i; j = j; value = valueAt s d i j; cells = 0 }
-
-  abbrev pub toldUndecided : ℕ → ℕ → Answer
-  toldUndecided d m = record { word = undecided; level = d; i = 0; j = 0; value = pos 0; cells = m }
-
   unfoldable pub cellsOf : Option Cutting → ℕ
   cellsOf none = 0
   cellsOf (some t) = leaves t
@@ -56,14 +47,14 @@ module _ (s : Subject) where
   least-count L = cellsOf (greedy (pass (s .shape)) (cutTo (s .shape)) L (s .values))
 
   unfoldable pub inRowTold : ℕ → ℕ → Option ℕ → Answer
-  inRowTold d j none = toldUndecided 0 0
-  inRowTold d j (some i) = toldInvalid d i j
+  inRowTold d j none = is-undecided 0 0
+  inRowTold d j (some i) = is-invalid d i j (valueAt s d i j)
 
   unfoldable pub from : ℕ → ℕ → ℕ → Answer
-  from L d zero = toldUndecided L (opens (pass (s .shape)) (cutTo (s .shape)) L (s .values))
+  from L d zero = is-undecided L (opens (pass (s .shape)) (cutTo (s .shape)) L (s .values))
   from L d (suc n) =
       elim (level (pass (s .shape)) (cutTo (s .shape)) d (s .values)) [
-        | true ↦ toldValid d (least-count L)
+        | true ↦ is-valid d (least-count L)
         | false ↦ elim (firstRow d) [ some j ↦ inRowTold d j (inRow d j) | none ↦ from L (suc d) n ]
       ]
 
@@ -113,10 +104,10 @@ module _ (s : Subject) (f : Faithful s) where
         let r = f .bad-low d i j b .0 .row-in in
         h j zero-le (omega arith) (bad-row i j b)
 
-    pub record First (i j : ℕ) : Type 0 where
-      pub bad : s .Bad d i j
-      pub first-row : (i' j' : ℕ) → s .Bad d i' j' → j ≤ j'
-      pub first-column : (i' : ℕ) → s .Bad d i' j → i ≤ i'
+    record First (i j : ℕ) : Type 0 where
+      bad : s .Bad d i j
+      first-row : (i' j' : ℕ) → s .Bad d i' j' → j ≤ j'
+      first-column : (i' : ℕ) → s .Bad d i' j → i ≤ i'
 
     first-bad : (j : ℕ) → firstRow s d ≡ some j → (i : ℕ) × (inRow s d j ≡ some i) × First i j
     first-bad j e = go (inRow s d j) refl
@@ -153,10 +144,7 @@ module _ (s : Subject) (f : Faithful s) where
     cells-least g e =
         let (p, q) = greedy-fits (pass (s .shape)) (cutTo (s .shape)) L (s .values) g e in
         record {
-          cutting = g;
-          passing = p;
-          within = q;
-          many = refl;
+          attained = record { cutting = g; passing = p; within = q; many = refl };
           fewest = λ t h k. greedy-least (pass (s .shape)) (cutTo (s .shape)) L (s .values) g e t h .0;
         }
 
@@ -168,14 +156,14 @@ module _ (s : Subject) (f : Faithful s) where
 
     -- ---- level by level
     from-valid : (d n : ℕ) → level (pass (s .shape)) (cutTo (s .shape)) d (s .values) ≡ true
-        → from s L d (suc n) ≡ toldValid s d (least-count s L)
+        → from s L d (suc n) ≡ is-valid d (least-count s L)
     unfolding from
     from-valid d n e = rw (e, from)
 
     from-invalid : (d n i j : ℕ) → level (pass (s .shape)) (cutTo (s .shape)) d (s .values) ≡ false
         → firstRow s d ≡ some j
         → inRow s d j ≡ some i
-        → from s L d (suc n) ≡ toldInvalid s d i j
+        → from s L d (suc n) ≡ is-invalid d i j (valueAt s d i j)
     unfolding from inRowTold
     from-invalid d n i j e h k = rw (e, h, k, from)
 
@@ -229,8 +217,7 @@ module _ (s : Subject) (f : Faithful s) where
             rw (from-valid d n e)
             (record {
               within = omega arith;
-              passing = level-passes s f d t;
-              least = not-earlier (AllPass s) d np;
+              level = record { passing = level-passes s f d t; least = not-earlier (AllPass s) d np };
               count = count-is d t (omega arith);
               no-column = refl;
               no-row = refl;
@@ -241,10 +228,13 @@ module _ (s : Subject) (f : Faithful s) where
             rw (from-invalid d n i j e w k)
             (record {
               within = omega arith;
-              bad = p .bad;
-              least = λ e' i' j' b. not-earlier SomeBad d nb e' (i', j', b);
-              first-row = p .first-row;
-              first-column = p .first-column;
+              first =
+                  record {
+                    bad = p .bad;
+                    least = λ e' i' j' b. not-earlier SomeBad d nb e' (i', j', b);
+                    first-row = p .first-row;
+                    first-column = p .first-column;
+                  };
               shown = f .is-shown d i j (f .bad-low d i j (p .bad) .0);
               no-cells = refl;
             })

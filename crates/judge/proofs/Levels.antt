@@ -24,7 +24,7 @@ use Rattle.forms.proofs.Cuttings as C
 use Rattle.forms.proofs.Shapes.{inherit, level-point, scaled-times}
 use Rattle.forms.proofs.Grids.{grid-point, grid-nested}
 use Rattle.judge.specs.Verdict.{Subject, AllPass}
-use Rattle.judge.proofs.Faithful.{valueAt, Faithful}
+use Rattle.judge.specs.Faithful.{valueAt, Faithful}
 
 module _ (s : Subject) (f : Faithful s) where
   abbrev pub Level : ℕ → Type 0

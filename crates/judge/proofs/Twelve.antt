@@ -1,25 +1,92 @@
 -- The twelve elements of 01, proved: one list, one claim; and the wrong judges' answers, which do not fit.
+--   F-nodes, G-nodes, grid-nodes : the elements have the nodes that 01 names
+--   twelve-limits      : and the limits
 --   twelve-hold        : the values and the verdict of each of the twelve
 --   always-valid, always-undecided, level-0-and-a-guess, invented-count, .. : answers that do not fit one of them
 -- Assumes nothing.
 use mathlib.Core.Path.{_≡_, refl, sym, _∙_, ap, subst}
 use mathlib.Core.List.{List, [], _∷_, map}
-use Prim.Native.Nat.{ℕ, zero, suc}
+use mathlib.Core.Bool.{cond, _&&_}
+use Prim.Native.Nat.{ℕ, zero, suc, _+_, _*_, _<_}
 use native.Mathlib.Omega.{arith}
-use lib.IntN.{ℤ, pos}
+use lib.Dec.{eqb}
+use lib.IntN.{ℤ, pos, negℤ}
 use Rattle.forms.specs.Rows.{weigh}
 use Rattle.forms.specs.Forms.{value}
 use Rattle.forms.specs.Cuttings.{leaves, level, opens, greedy}
 use Rattle.forms.specs.Shapes.{scaled}
 use Rattle.element.specs.Kinds.{Kind, six, nine}
+use Rattle.element.specs.Plane.{Vec}
+use Rattle.element.specs.Nodes.{A0, A1, A2, M01, M12, M02, A9}
 use Rattle.element.specs.Control.{values6, value as controlValue, controlValues}
-use Rattle.judge.specs.Verdict.{Answer, valid, undecided, Judges}
+use Rattle.judge.specs.Verdict.{Answer, valid, undecided, is-valid, is-invalid, Judges}
 use Rattle.judge.specs.Elements.{subject}
-use Rattle.judge.specs.Twelve.{F, G, Row, row, is-valid, is-invalid, is-undecided, twelve, Holds, AllHold}
+use Rattle.judge.specs.Twelve.{F, G, grid9, Row, row, twelve, Holds, AllHold}
 use Rattle.judge.proofs.Faithful.{element-faithful}
 use Rattle.judge.proofs.Search.{least}
 use Rattle.judge.proofs.Unique.{judges-unique}
 use Rattle.judge.proofs.Computed.{low, inRow, rowLow, firstRow, cellsOf, least-count, inRowTold, from, verdict, verdict-is}
+
+-- ---- the nodes
+abbrev at : ℤ → ℤ → Vec
+at x y = record { x = x; y = y }
+
+-- "A0(0,0), A1(8,0), A2(0,8), M12(4,4), M02(0,4), M01(4,t)"
+pub F-nodes : (t : ℕ)
+    → (A0 (F t) ≡ at (pos 0) (pos 0))
+    × (A1 (F t) ≡ at (pos 8) (pos 0))
+    × (A2 (F t) ≡ at (pos 0) (pos 8))
+    × (M12 (F t) ≡ at (pos 4) (pos 4))
+    × (M02 (F t) ≡ at (pos 0) (pos 4))
+    × (M01 (F t) ≡ at (pos 4) (pos t))
+F-nodes t = (refl, refl, refl, refl, refl, refl)
+
+-- "A0(-8,0), A1(8,0), A2(0,16), M01(0,t), M12(4+s,8), M02(-4-s,8)"
+pub G-nodes : (t s : ℕ)
+    → (A0 (G t s) ≡ at (negℤ (pos 8)) (pos 0))
+    × (A1 (G t s) ≡ at (pos 8) (pos 0))
+    × (A2 (G t s) ≡ at (pos 0) (pos 16))
+    × (M01 (G t s) ≡ at (pos 0) (pos t))
+    × (M12 (G t s) ≡ at (pos (4 + s)) (pos 8))
+    × (M02 (G t s) ≡ at (negℤ (pos (4 + s))) (pos 8))
+G-nodes t s = (refl, refl, refl, refl, refl, refl)
+
+-- what holds of 0, 1 and 2 holds of each number below 3
+below-three : (P : ℕ → Type 0) → P 0 → P 1 → P 2 → (n : ℕ) → n < 3 → P n
+below-three P a b c zero h = a
+below-three P a b c (suc zero) h = b
+below-three P a b c (suc (suc zero)) h = c
+below-three P a b c (suc (suc (suc n))) h = absurd (omega arith)
+
+same-at : {a b c d : ℕ} → a ≡ c → b ≡ d → at (pos a) (pos b) ≡ at (pos c) (pos d)
+same-at e f = cc
+
+-- "nodes (i,j)" and "nodes (2i,2j) but centre (3,2)": nodes (k·i, k·j), but the given centre
+pub grid-nodes : (k x y i j : ℕ) → i < 3
+    → j < 3
+    → A9 (grid9 k x y) i j ≡ cond (eqb i 1 && eqb j 1) (at (pos x) (pos y)) (at (pos (k * i)) (pos (k * j)))
+grid-nodes k x y i j h g =
+    below-three (λ i. Node i j)
+    (below-three (Node 0) (same-at z z) (same-at z o) (same-at z t) j g)
+    (below-three (Node 1) (same-at o z) refl (same-at o t) j g)
+    (below-three (Node 2) (same-at t z) (same-at t o) (same-at t t) j g) i h
+  where
+    Node : ℕ → ℕ → Type 0
+    Node i j = A9 (grid9 k x y) i j ≡ cond (eqb i 1 && eqb j 1) (at (pos x) (pos y)) (at (pos (k * i)) (pos (k * j)))
+
+    z : 0 ≡ k * 0
+    z = omega arith
+
+    o : k ≡ k * 1
+    o = omega arith
+
+    t : 2 * k ≡ k * 2
+    t = omega arith
+
+-- ---- the list
+-- the limits of 01's first column
+pub twelve-limits : map (λ (r : Row). r .limit) twelve ≡ 0 ∷ 3 ∷ 3 ∷ 3 ∷ 0 ∷ 3 ∷ 3 ∷ 3 ∷ 0 ∷ 3 ∷ 2 ∷ 2 ∷ []
+twelve-limits = refl
 
 -- the same rows with what computes in place of what is stated
 abbrev computed : Row → Row

@@ -8,9 +8,8 @@ use native.Mathlib.Omega.{arith}
 use native.Mathlib.Nat as N
 use lib.IntN.{ℤ, pos}
 use Rattle.forms.specs.Cuttings.{leaves}
-use Rattle.forms.specs.Grids.{OnGrid}
-use Rattle.judge.specs.Verdict.{Word, valid, invalid, undecided, Answer, Subject, AllPass, LeastCells, Valid, Invalid, Undecided, Case, Judges}
-use Rattle.judge.proofs.Faithful.{valueAt, Faithful}
+use Rattle.judge.specs.Verdict.{Word, valid, invalid, undecided, Answer, Subject, LeastCells, FirstBad, Valid, Invalid, Undecided, Case, Judges}
+use Rattle.judge.specs.Faithful.{valueAt, Faithful}
 use Rattle.judge.proofs.Levels.{passes-no-bad}
 
 -- answers by their fields
@@ -26,44 +25,45 @@ answer-≡ a b p q r s t u = λ x. record { word = p x; level = q x; i = r x; j 
 module _ (s : Subject) (f : Faithful s) (L : ℕ) where
   pub cells-unique : (m n : ℕ) → LeastCells s L m → LeastCells s L n → m ≡ n
   cells-unique m n a b =
-      let h : m ≤ leaves (b .cutting) = a .fewest (b .cutting) (b .passing) (b .within) in
-      let k : n ≤ leaves (a .cutting) = b .fewest (a .cutting) (a .passing) (a .within) in
-      let p = a .many in let q = b .many in omega arith
+      let x = a .attained in let y = b .attained in
+      let h : m ≤ leaves (y .cutting) = a .fewest (y .cutting) (y .passing) (y .within) in
+      let k : n ≤ leaves (x .cutting) = b .fewest (x .cutting) (x .passing) (x .within) in
+      let p = x .many in let q = y .many in omega arith
 
   both-valid : (a b : Answer) → a .word ≡ b .word → Valid s L a → Valid s L b → a ≡ b
   both-valid a b w p q =
-      answer-≡ a b w (N.le-antisymm (p .least (b .level) (q .passing)) (q .least (a .level) (p .passing)))
+      answer-≡ a b w (N.le-antisymm (p .level .least (b .level) (q .level .passing)) (q .level .least (a .level) (p .level .passing)))
       (p .no-column ∙ sym (q .no-column)) (p .no-row ∙ sym (q .no-row)) (p .no-value ∙ sym (q .no-value))
       (cells-unique (a .cells) (b .cells) (p .count) (q .count))
 
   both-invalid : (a b : Answer) → a .word ≡ b .word → Invalid s L a → Invalid s L b → a ≡ b
   both-invalid a b w p q = answer-≡ a b w levels columns rows values (p .no-cells ∙ sym (q .no-cells))
     where
+      x : FirstBad s (a .level) (a .i) (a .j)
+      x = p .first
+
+      y : FirstBad s (b .level) (b .i) (b .j)
+      y = q .first
+
       levels : a .level ≡ b .level
-      levels = N.le-antisymm (p .least (b .level) (b .i) (b .j) (q .bad)) (q .least (a .level) (a .i) (a .j) (p .bad))
+      levels = N.le-antisymm (x .least (b .level) (b .i) (b .j) (y .bad)) (y .least (a .level) (a .i) (a .j) (x .bad))
 
       rows : a .j ≡ b .j
       rows =
-          N.le-antisymm (p .first-row (b .i) (b .j) (subst (λ (d : ℕ). s .Bad d (b .i) (b .j)) (sym levels) (q .bad)))
-          (q .first-row (a .i) (a .j) (subst (λ (d : ℕ). s .Bad d (a .i) (a .j)) levels (p .bad)))
+          N.le-antisymm (x .first-row (b .i) (b .j) (subst (λ (d : ℕ). s .Bad d (b .i) (b .j)) (sym levels) (y .bad)))
+          (y .first-row (a .i) (a .j) (subst (λ (d : ℕ). s .Bad d (a .i) (a .j)) levels (x .bad)))
 
       columns : a .i ≡ b .i
       columns =
-          N.le-antisymm (p .first-column (b .i) (rw (levels, rows) (q .bad))) (q .first-column (a .i) (rw (← levels, ← rows) (p .bad)))
-
-      on : OnGrid (s .shape) (a .level) (a .i) (a .j)
-      on = f .bad-low (a .level) (a .i) (a .j) (p .bad) .0
-
-      on' : OnGrid (s .shape) (b .level) (b .i) (b .j)
-      on' = f .bad-low (b .level) (b .i) (b .j) (q .bad) .0
+          N.le-antisymm (x .first-column (b .i) (rw (levels, rows) (y .bad))) (y .first-column (a .i) (rw (← levels, ← rows) (x .bad)))
 
       one-value : valueAt s (a .level) (a .i) (a .j) ≡ valueAt s (b .level) (b .i) (b .j)
       one-value = rw (levels, rows, columns)
 
       values : a .value ≡ b .value
       values =
-          f .shows-is (a .level) (a .i) (a .j) on (a .value) (p .shown) ∙ one-value
-          ∙ sym (f .shows-is (b .level) (b .i) (b .j) on' (b .value) (q .shown))
+          f .shows-is (a .level) (a .i) (a .j) (a .value) (p .shown) ∙ one-value
+          ∙ sym (f .shows-is (b .level) (b .i) (b .j) (b .value) (q .shown))
 
   both-undecided : (a b : Answer) → a .word ≡ b .word → Undecided s L a → Undecided s L b → a ≡ b
   both-undecided a b w p q =
@@ -72,13 +72,13 @@ module _ (s : Subject) (f : Faithful s) (L : ℕ) where
 
   -- no two of the cases hold together
   pub not-valid-invalid : (a b : Answer) → Valid s L a → Invalid s L b → ⊥
-  not-valid-invalid a b p q = passes-no-bad s f (a .level) (p .passing) (b .level) (b .i) (b .j) (q .bad)
+  not-valid-invalid a b p q = passes-no-bad s f (a .level) (p .level .passing) (b .level) (b .i) (b .j) (q .first .bad)
 
   pub not-valid-undecided : (a b : Answer) → Valid s L a → Undecided s L b → ⊥
-  not-valid-undecided a b p q = q .none-passes (a .level) (p .within) (p .passing)
+  not-valid-undecided a b p q = q .none-passes (a .level) (p .within) (p .level .passing)
 
   pub not-invalid-undecided : (a b : Answer) → Invalid s L a → Undecided s L b → ⊥
-  not-invalid-undecided a b p q = q .none-bad (a .level) (a .i) (a .j) (p .within) (p .bad)
+  not-invalid-undecided a b p q = q .none-bad (a .level) (a .i) (a .j) (p .within) (p .first .bad)
 
   pub judges-unique : (a b : Answer) → Judges s L a → Judges s L b → a ≡ b
   judges-unique a b p q = go (a .word) refl (b .word) refl p q

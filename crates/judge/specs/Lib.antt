@@ -1,4 +1,5 @@
 -- The verdict, in 01's words, and the twelve elements.
 pub mod Verdict
+pub mod Faithful
 pub mod Elements
 pub mod Twelve

@@ -12,7 +12,7 @@ use lib.IntN.{ℤ, pos, negℤ}
 use lib.ListN.{replicate}
 use Rattle.element.specs.Kinds.{Kind, six, nine}
 use Rattle.element.specs.Control.{controlValues}
-use Rattle.judge.specs.Verdict.{Word, valid, invalid, undecided, Answer, Judges}
+use Rattle.judge.specs.Verdict.{Answer, is-valid, is-invalid, is-undecided, Judges}
 use Rattle.judge.specs.Elements.{subject}
 
 abbrev pub n : ℕ → ℤ
@@ -41,15 +41,6 @@ pub record Row : Type 0 where
 
 abbrev pub row : Kind → List ℤ → ℕ → List ℤ → Answer → Row
 row k xs L c a = record { kind = k; coords = xs; limit = L; values = c; answer = a }
-
-abbrev pub is-valid : ℕ → ℕ → Answer
-is-valid d m = record { word = valid; level = d; i = 0; j = 0; value = pos 0; cells = m }
-
-abbrev pub is-invalid : ℕ → ℕ → ℕ → ℤ → Answer
-is-invalid d i j z = record { word = invalid; level = d; i = i; j = j; value = z; cells = 0 }
-
-abbrev pub is-undecided : ℕ → ℕ → Answer
-is-undecided d m = record { word = undecided; level = d; i = 0; j = 0; value = pos 0; cells = m }
 
 abbrev pub G84 : List ℤ
 G84 = pos 1024 ∷ pos 1024 ∷ pos 1536 ∷ n 1024 ∷ pos 256 ∷ pos 256 ∷ []

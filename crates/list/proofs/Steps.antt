@@ -1,14 +1,17 @@
 -- The list, line by line.
+--   take-min        : the first n numbers, of as many as there are
 --   line-judged     : the line of a verdict of a well-formed record is the record's line
 --   line-written    : so it is where the line was written
 --   lines-none, lines-more : no line; the line of one more record
 --   whole-refused, whole-listed : the list of bytes that are refused, and of a block
+--   take-over       : what stands at the start of a buffer that it was written into
 --   list-within, list-short, list-fits : the list copied from a large buffer into the lent one, or not where it has no room
 -- Assumes nothing.
 use mathlib.Core.Path.{_≡_, refl, sym, _∙_, ap, subst}
 use mathlib.Core.List.{List, [], _∷_, _++_}
 use mathlib.Core.Logic.{_⊎_, inl, inr}
-use Prim.Native.Nat.{ℕ, _+_, _*_, _≤_, _<_}
+use Prim.Native.Nat.{ℕ, _+_, _*_, min, _≤_, _<_}
+use native.Mathlib.Nat as N
 use native.Mathlib.Decide.{decLe}
 use native.Mathlib.Numerals.{add-one}
 use native.Mathlib.Omega.{arith}
@@ -22,11 +25,11 @@ use Rattle.verdict.specs.declared.Judged.{Judged}
 use Rattle.verdict.specs.Calls.{VerdictOf, tell}
 use Rattle.record.specs.declared.Record.{Record}
 use Rattle.record.specs.Record.{used, blank, WellFormed}
-use Rattle.block.specs.Block.{Holds, record-of}
+use Rattle.block.specs.Block.{Holds, record-of, records-in}
 use Rattle.block.specs.declared.Checked.{Checked}
 use Rattle.block.specs.Calls.{Checks}
 use Rattle.block.proofs.Answers.{checks-refused, checks-counted}
-use Rattle.block.proofs.Blocks.{records-in, block-count}
+use Rattle.block.proofs.Blocks.{block-count}
 use Rattle.block.proofs.Demands.{checked-only}
 use Rattle.endian.specs.Numbers.{Bytes, over}
 use Rattle.text.specs.Writing.{Wrote}
@@ -36,9 +39,19 @@ use Rattle.lines.specs.Names.{name, nameOf, judgedLine}
 use Rattle.lines.proofs.Lengths.{first-line-short, refused-line-short}
 use Rattle.list.specs.Listing.{Line, lineOf, Lines, no-more, _then_, Lists, refused, listed}
 use Rattle.list.specs.Calls.{WritesList}
-use Rattle.list.specs.Steps.{Judging, LineWritten, LinesWritten, LinesTo, WholeList}
+use Rattle.list.specs.Steps.{LineWritten, LinesWritten, LinesTo, WholeList}
 
 -- ---- one line
+-- the numbers that a kind uses, of as many as there are
+pub take-min : {A : Type 0} (n m : ℕ) (l : List A) → length l ≡ m → take (min n m) l ≡ take n l
+take-min n m l e = go (decLe n m)
+  where
+    go : Dec (n ≤ m) → take (min n m) l ≡ take n l
+    go (yes h) = ap (λ (k : ℕ). take k l) (N.min-eq-left h)
+    go (no h) =
+        let f : min n m ≡ m = omega arith in
+        ap (λ (k : ℕ). take k l) f ∙ take-all m l (omega arith) ∙ sym (take-all n l (omega arith))
+
 -- a kind that is known has at most nine nodes
 pub kind-few : (n : ℕ) → ¬ NotKind n → n ≤ 9
 kind-few n h = go (decLe n 9)
@@ -68,13 +81,12 @@ line-judged r v w (inr h) =
       text = ap (judgedLine (r .id) (r .kind)) (h .told) ∙ ap (λ (n : List ℕ). verdictLine (r .id) (r .kind) n (a .level) (a .i) (a .j) (a .cells)) (named (a .word));
     }
 
-pub line-written : (r s : Record) (v : Judged) → r ≡ s → WellFormed s → Judging (r .kind) (r .limit) (r .coords) v → length (judgedLine (r .id) (r .kind) v) ≤ 77 → {o o′ : List ℕ} {at p : ℕ}
+pub line-written : (r s : Record) (v : Judged) → r ≡ s → WellFormed s → VerdictOf (r .kind) (r .limit) (used r) v → length (judgedLine (r .id) (r .kind) v) ≤ 77 → {o o′ : List ℕ} {at p : ℕ}
     → Wrote o at (judgedLine (r .id) (r .kind) v) o′ p → LineWritten s o at o′ p
 line-written r s v e f j n {o} {o′} {at} {p} w =
-    let u = subst (λ (x : Record). Judging (x .kind) (x .limit) (x .coords) v) e j (kind-few (s .kind) (f .kind-known)) in
     record {
       text = judgedLine (s .id) (s .kind) v;
-      line = line-judged s v f u;
+      line = line-judged s v f (subst (λ (x : Record). VerdictOf (x .kind) (x .limit) (used x) v) e j);
       short = subst (λ (x : Record). length (judgedLine (x .id) (x .kind) v) ≤ 77) e n;
       wrote = subst (λ (x : Record). Wrote o at (judgedLine (x .id) (x .kind) v) o′ p) e w;
     }
@@ -152,8 +164,7 @@ module _ {l : List ℕ} (r : Checked) (c : Checks l r) {o o′ : List ℕ} {p : 
       w = lines rs h (omega (arith, count))
 
 -- ---- the whole, copied
--- what stands at the start of a large buffer
-take-over : (o t : List ℕ) → take (length t) (over o 0 t) ≡ t
+pub take-over : (o t : List ℕ) → take (length t) (over o 0 t) ≡ t
 take-over o t = ap (λ (a : List ℕ). take (length t) (a ++ (t ++ drop (0 + length t) o))) (take-none o) ∙ take-append-seam t (drop (0 + length t) o)
 
 module _ {l s s′ : List ℕ} {n : ℕ} (h : length s ≡ 65536) (w : WholeList l s s′ n) where
@@ -168,16 +179,16 @@ module _ {l s s′ : List ℕ} {n : ℕ} (h : length s ≡ 65536) (w : WholeList
       let k = w .short in
       ap (λ (m : ℕ). take m s′) list-length ∙ ap (take (length (w .text))) (w .wrote .content (omega arith)) ∙ take-over s (w .text)
 
-  pub list-short : (o : List ℕ) → length o < n → WritesList l o o (record { code = 5; length = 0 })
-  list-short o r = inr (record { text = w .text; lists = w .lists; room = omega (arith, list-length); answer = refl; content = refl })
+  pub list-short : (o : List ℕ) → length o < n → WritesList l o o (record { code = 5; number = 0; length = 0 })
+  list-short o r = inr (record { text = w .text; lists = w .lists; within = w .short; room = omega (arith, list-length); answer = refl; content = refl })
 
-  pub list-fits : (o o′ : List ℕ) (p : ℕ) → n ≤ length o → Wrote o 0 (take n s′) o′ p → WritesList l o o′ (record { code = 0; length = n })
+  pub list-fits : (o o′ : List ℕ) (p : ℕ) → n ≤ length o → Wrote o 0 (take n s′) o′ p → WritesList l o o′ (record { code = 0; number = 0; length = n })
   list-fits o o′ p r v =
       let e = ap length list-text in
       inl (record {
         text = w .text;
         lists = w .lists;
         room = omega (arith, list-length);
-        answer = ap (λ (m : ℕ). record { code = 0; length = m }) list-length;
+        answer = ap (λ (m : ℕ). record { code = 0; number = 0; length = m }) list-length;
         content = v .content (omega (arith, list-length)) ∙ ap (over o 0) list-text;
       })

@@ -17,15 +17,16 @@ pub record Fits (l o o′ : List ℕ) (r : Listed) : Type 0 where
   pub text : List ℕ
   pub lists : Lists l text
   pub room : length text ≤ length o
-  pub answer : r ≡ record { code = 0; length = length text }
+  pub answer : r ≡ record { code = 0; number = 0; length = length text }
   pub content : o′ ≡ over o 0 text
 
--- 5: "buffer too short"; the buffer stays
+-- 5: "buffer too short"; the buffer stays. No list is longer than 65,536 characters
 pub record Short (l o o′ : List ℕ) (r : Listed) : Type 0 where
   pub text : List ℕ
   pub lists : Lists l text
+  pub within : length text ≤ 65536
   pub room : length o < length text
-  pub answer : r ≡ record { code = 5; length = 0 }
+  pub answer : r ≡ record { code = 5; number = 0; length = 0 }
   pub content : o′ ≡ o
 
 abbrev pub WritesList : List ℕ → List ℕ → List ℕ → Listed → Type 0

@@ -1,5 +1,4 @@
 -- What the functions under `write_list` leave, a step each.
---   Judging kind limit coords v == v is the verdict of the element of a record with these fields
 --   LineWritten r o at o′ p   == of the buffer o, with the line of r written at the place `at`, o′ is left and p is the place after it
 --   LinesWritten rs o at o′ p == the same of the lines of the records rs
 --   LineAt, LinesTo   == the same of record k, and of the first n records, of bytes that are a block
@@ -8,17 +7,11 @@
 use mathlib.Core.Path.{_≡_}
 use mathlib.Core.List.{List}
 use Prim.Native.Nat.{ℕ, _*_, _≤_, _<_}
-use lib.IntN.{ℤ}
 use lib.ListN.{length, take}
-use Rattle.verdict.specs.declared.Judged.{Judged}
-use Rattle.verdict.specs.Calls.{VerdictOf}
 use Rattle.record.specs.declared.Record.{Record}
 use Rattle.block.specs.Block.{Holds, record-of}
 use Rattle.text.specs.Writing.{Wrote}
 use Rattle.list.specs.Listing.{Line, Lines, Lists}
-
-abbrev pub Judging : ℕ → ℕ → List ℤ → Judged → Type 0
-Judging kind limit coords v = kind ≤ 9 → VerdictOf kind limit (take (2 * kind) coords) v
 
 -- a line has at most 77 characters
 pub record LineWritten (r : Record) (o : List ℕ) (at : ℕ) (o′ : List ℕ) (p : ℕ) : Type 0 where

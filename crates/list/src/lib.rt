@@ -9,20 +9,22 @@ use verdict::Judged;
 use verdict::Word;
 use verdict::verdict;
 ghost use mathlib.Core.Path.{_≡_};
-ghost use Prim.Native.Nat.{_*_, _≤_};
-ghost use lib.ListN.{length};
+ghost use Prim.Native.Nat.{_*_, min};
+ghost use lib.ListN.{take};
+ghost use Rattle.verdict.specs.Calls.{VerdictOf};
 ghost use Rattle.list.specs.Calls.{WritesList};
-ghost use Rattle.list.specs.Steps.{Judging, LineAt, LinesTo, WholeList};
+ghost use Rattle.list.specs.Steps.{LineAt, LinesTo, WholeList};
 
-// The code, and the length of the list.
+// The code, the record number, and the length of the list.
 pub struct Listed {
     pub code: u8,
+    pub number: u32,
     pub length: usize,
 }
 
-// How many of a record's numbers are coordinates of its nodes.
+// How many of a record's 18 numbers are coordinates of its nodes.
 fn used_numbers(kind: u8) -> usize
-    ensures { λ r. ⌜ (r ≤ 18) × (kind ≤ 9 → r ≡ 2 * kind) ⌝ }
+    ensures { λ r. ⌜ r ≡ min (2 * kind) 18 ⌝ }
 {
     if 9 < kind {
         return 18;
@@ -32,7 +34,7 @@ fn used_numbers(kind: u8) -> usize
 
 // The verdict of a record's element under its own limit.
 pub fn judge(kind: u8, limit: u8, coords: [i32; 18]) -> Judged
-    ensures { λ v. ⌜ Judging kind limit coords v ⌝ }
+    ensures { λ v. ⌜ VerdictOf kind limit (take (2 * kind) coords) v ⌝ }
 {
     let n = used_numbers(kind);
     verdict(kind, limit, &coords[..n])
@@ -80,8 +82,16 @@ pub fn write_list(bytes: &[u8], out: &mut [u8]) -> Listed
     let mut space = [0u8; 65536];
     let n = whole_list(bytes, &mut space);
     if out.len() < n {
-        return Listed { code: 5, length: 0 };
+        return Listed {
+            code: 5,
+            number: 0,
+            length: 0,
+        };
     }
     write::word(out, 0, &space[..n]);
-    Listed { code: 0, length: n }
+    Listed {
+        code: 0,
+        number: 0,
+        length: n,
+    }
 }

@@ -1,6 +1,7 @@
 -- What the steps of a reader come to.
 --   step-over, step-found, over-test, found-test : a step, by its test
 --   over-beyond   : and where it is the end, a fetch answers 12
+--   opens-checks  : an opening answers what the check does
 --   opens-begins, opens-refused : an opening, by the check's code
 --   opens-unique, steps-unique : the answers of an opening and of a step are determined by the bytes and the place
 --   refused-ends  : the step of a reader of a refused block is the end
@@ -25,7 +26,7 @@ use Rattle.block.specs.declared.Checked.{Checked}
 use Rattle.block.specs.declared.Fetched.{Fetched}
 use Rattle.block.specs.Block.{place, record-of, Holds}
 use Rattle.block.specs.Faults.{blockCodes}
-use Rattle.block.specs.Calls.{fetched, Fetches}
+use Rattle.block.specs.Calls.{Checks, fetched, Fetches}
 use Rattle.block.proofs.Header.{header-size}
 use Rattle.block.proofs.Walk.{block-some, accepted-header}
 use Rattle.block.proofs.Answers.{checks-unique, fetch-beyond, fetches-refused}
@@ -65,6 +66,10 @@ steps-unique s t = (s .found ∙ sym (t .found), s .moved ∙ sym (t .moved))
 
 -- ---- an opening
 module _ (l : List ℕ) where
+  pub opens-checks : (c : Checked) (at : ℕ) → Opens l c at → Checks l c
+  opens-checks c at (inl p) = inl (p .refused)
+  opens-checks c at (inr p) = inr (p .counted)
+
   pub opens-begins : (c : Checked) (at : ℕ) → Opens l c at → c .code ≡ 0 → Begins l c at
   opens-begins c at (inl p) e = absurd (block-some l (record { code = c .code; number = c .number }) (p .refused .refused) e)
   opens-begins c at (inr p) e = p

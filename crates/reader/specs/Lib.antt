@@ -1,2 +1,3 @@
--- What a reader of a block answers.
+-- What a reader of a block answers, and its runs.
 pub mod Steps
+pub mod Runs

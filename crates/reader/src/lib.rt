@@ -7,7 +7,8 @@ use record::Record;
 use record::read_record;
 ghost use mathlib.Core.Path.{_≡_};
 ghost use Rattle.block.specs.Calls.{Fetches};
-ghost use Rattle.reader.specs.Steps.{overAt, stepAt, Steps, Opens};
+ghost use Rattle.reader.specs.Steps.{overAt, stepAt, Opens};
+ghost use Rattle.reader.specs.Runs.{OpensReader, StepsReader};
 
 // The bytes of a block, and where the next record begins.
 pub struct Reader<'a> {
@@ -91,7 +92,7 @@ pub fn begin_at(s: &[u8]) -> Begun
 
 // A reader of the bytes.
 pub fn open_reader<'a>(bytes: &'a [u8]) -> Opened<'a>
-    ensures { λ r. ⌜ (Opens (now (bytes .entry)) (r .checked) (r .reader .place)) × (r .reader .slice ≡ bytes .entry) ⌝ }
+    ensures { λ r. ⌜ OpensReader (bytes .entry) r ⌝ }
 {
     let f = begin_at(bytes);
     Opened {
@@ -105,7 +106,7 @@ pub fn open_reader<'a>(bytes: &'a [u8]) -> Opened<'a>
 
 // The next record, or the end.
 pub fn step_reader<'a>(r: Reader<'a>) -> Stepped<'a>
-    ensures { λ q. ⌜ (Steps (now (r .entry .slice)) (r .entry .place) (q .next) (q .reader .place)) × (q .reader .slice ≡ r .entry .slice) ⌝ }
+    ensures { λ q. ⌜ StepsReader (r .entry) q ⌝ }
 {
     let f = step_at(r.slice, r.place);
     Stepped {

@@ -25,8 +25,7 @@ use Rattle.element.proofs.Refusals.{coded-some}
 use Rattle.element.proofs.Sizes.{values-size}
 use Rattle.faults.proofs.Limits.{limit-quad, level-quad, accepted-each}
 use Rattle.quad.specs.Points.{quadKind}
-use Rattle.judge.specs.Verdict.{Answer}
-use Rattle.judge.specs.Twelve.{is-valid, is-invalid, is-undecided}
+use Rattle.judge.specs.Verdict.{Answer, is-valid, is-invalid, is-undecided}
 use Rattle.steps.specs.declared.Walk.{Walk}
 use Rattle.walks.specs.Walk.{answer}
 use Rattle.walks.specs.Elements.{walkOf}

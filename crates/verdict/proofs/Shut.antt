@@ -20,7 +20,8 @@ use lib.IntN.{ℤ}
 use Rattle.element.specs.Kinds.{kindOf, NotKind, greatestLevel}
 use Rattle.element.specs.Refusals.{Refused, Accepted, verdictCodes}
 use Rattle.element.proofs.Refusals.{refused-accepted}
-use Rattle.judge.specs.Twelve.{F, G, is-valid}
+use Rattle.judge.specs.Verdict.{is-valid}
+use Rattle.judge.specs.Twelve.{F, G}
 use Rattle.verdict.specs.Calls.{given, refusal, VerdictOf}
 use Rattle.verdict.specs.declared.Word.the-variants.{Valid, Invalid, Undecided}
 use Rattle.verdict.specs.declared.Judged.{Judged}

@@ -20,6 +20,7 @@ use Rattle.judge.specs.Elements.{subject}
 use Rattle.judge.specs.Twelve.{Row, twelve, Holds, AllHold}
 use Rattle.judge.proofs.Twelve.{twelve-hold}
 use Rattle.verdict.specs.Calls.{given, VerdictOf}
+use Rattle.verdict.specs.Twelve.{Called, AllCalled}
 use Rattle.verdict.specs.declared.Judged.{Judged}
 use Rattle.verdict.proofs.Outcomes.{verdict-unique}
 
@@ -57,13 +58,6 @@ accepted-kind k l xs t =
     (is-kind k, (level, (many, (inside, tt))))
 
 -- ---- the list
-abbrev pub Called : Row → Type 0
-Called r = (s : Judged) → VerdictOf (nodeCount (r .kind)) (r .limit) (r .coords) s → s ≡ given (r .answer)
-
-abbrev pub AllCalled : List Row → Type 0
-AllCalled [] = Unit {0}
-AllCalled (r ∷ rs) = Called r × AllCalled rs
-
 abbrev allAccepted : List Row → Bool
 allAccepted [] = true
 allAccepted (r ∷ rs) = accepts (r .kind) (r .limit) (r .coords) && allAccepted rs

@@ -1,2 +1,3 @@
 -- The call `verdict`.
 pub mod Calls
+pub mod Twelve

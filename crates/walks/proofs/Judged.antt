@@ -19,9 +19,8 @@ use Rattle.forms.specs.Shapes.{pass, cutTo, scaled, entry}
 use Rattle.forms.specs.Grids.{gridPoint}
 use Rattle.forms.proofs.Cuttings.{greedy-level, greedy-fits, level-opens}
 use Rattle.forms.proofs.Shapes.{inherit}
-use Rattle.judge.specs.Verdict.{Subject, Valid, Invalid, Undecided, Judges}
-use Rattle.judge.specs.Twelve.{is-valid, is-invalid, is-undecided}
-use Rattle.judge.proofs.Faithful.{valueAt, Faithful}
+use Rattle.judge.specs.Verdict.{is-valid, is-invalid, is-undecided, Subject, Valid, Invalid, Undecided, Judges}
+use Rattle.judge.specs.Faithful.{valueAt, Faithful}
 use Rattle.judge.proofs.Levels.{passes-level, level-passes, passes-up}
 use Rattle.judge.proofs.Computed.{cells-least}
 use Rattle.corners.specs.First.{something}
@@ -89,10 +88,13 @@ module _ (s : Subject) (f : Faithful s) (G : Chart) (C : Charted (s .shape) G) (
   is-first x m least =
       record {
         within = b .within;
-        bad = b .bad;
-        least = λ d i j q. up d i j q;
-        first-row = λ i j q. earlier (x .level) i j (b .within) q .row refl;
-        first-column = λ i q. earlier (x .level) i (x .j) (b .within) q .column refl refl;
+        first =
+            record {
+              bad = b .bad;
+              least = λ d i j q. up d i j q;
+              first-row = λ i j q. earlier (x .level) i j (b .within) q .row refl;
+              first-column = λ i q. earlier (x .level) i (x .j) (b .within) q .column refl refl;
+            };
         shown = subst (λ (z : ℤ). s .Shows (x .level) (x .i) (x .j) z) (sym (b .value-is))
             (f .is-shown (x .level) (x .i) (x .j) (f .bad-low (x .level) (x .i) (x .j) (b .bad) .0));
         no-cells = refl;
@@ -118,8 +120,7 @@ module _ (s : Subject) (f : Faithful s) (G : Chart) (C : Charted (s .shape) G) (
       rw (t .deep-is ∙ N.zero-add (depth (t .cutting)), t .cells-are)
       (record {
         within = h;
-        passing = level-passes s f (depth (t .cutting)) p;
-        least = λ d q. least d (passes-level s f d q);
+        level = record { passing = level-passes s f (depth (t .cutting)) p; least = λ d q. least d (passes-level s f d q) };
         count = cells-least s f L (t .cutting) (t .found);
         no-column = refl;
         no-row = refl;

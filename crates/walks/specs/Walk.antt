@@ -18,8 +18,7 @@ use lib.IntN.{ℤ}
 use lib.ListN.{length}
 use Rattle.forms.specs.Cuttings.{Four}
 use Rattle.forms.specs.Shapes.{Shape, pass, cutTo, cornerValue}
-use Rattle.judge.specs.Verdict.{Answer}
-use Rattle.judge.specs.Twelve.{is-valid, is-invalid, is-undecided}
+use Rattle.judge.specs.Verdict.{Answer, is-valid, is-invalid, is-undecided}
 use Rattle.corners.specs.First.{nothing, better, corner}
 use Rattle.corners.specs.declared.First.{First}
 use Rattle.steps.specs.Steps.{leaf, merge, lowered}

@@ -1,18 +1,16 @@
--- `append::start_block` meets its contract: nine bytes are written.
+-- `append::start_block` meets its contract: nine bytes are written. Assumes nothing.
 use mathlib.Core.Logic.{inl, inr}
-use mathlib.Core.Path.{refl, ap, _∙_}
+use mathlib.Core.Path.{refl, _∙_}
 use native.Mathlib.Omega.{arith}
 use native.Mathlib.Nat as N
-use lib.ListN.{length, length-set}
-use Rattle.endian.proofs.Writes.{puts, length-puts, length-over}
-use Rattle.endian.specs.Numbers.{bytes}
-use Rattle.append.proofs.Written.{opening, start-over}
+use lib.ListN.{length-set}
+use Rattle.append.proofs.Written.{start-over}
 use borrow.Author.Needs.{needs}
 use Rattle.append.proofs.start_block.Statement.{statement}
 use Rattle.append.proofs.start_block.Tie as tie
 
 returns : tie.Need-returns
-returns c = inl (record { refused = inl (c .if1 .taken, refl); no-used = refl; untouched = refl })
+returns c = inl (record { refused = inl (c .if1 .taken, refl); zeros = refl; untouched = refl })
 
 slice-write-buffer : tie.Need-slice-write-buffer
 slice-write-buffer c = search needs
@@ -33,11 +31,7 @@ put-u32-requires : tie.Need-put-u32-requires
 put-u32-requires c κs = search needs
 
 same-length : tie.Need-same-length
-same-length c =
-    let b = c .before .before .before .before .before .before .args .buffer .now in
-    let n = length-puts opening b 0 in
-    ap length (c .before .before .put-u32 .ensures) ∙ length-over (bytes 4 0) (puts b 0 opening) 5
-    (omega (arith, n, c .before .before .before .before .if1 .left)) ∙ n
+same-length c = c .before .before .put-u32 .kept .0 ∙ simp length-set
 
 returns-2 : tie.Need-returns-2
 returns-2 c =

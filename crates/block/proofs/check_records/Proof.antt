@@ -9,9 +9,9 @@ use Rattle.element.proofs.Refusals.{coded-some, coded-none}
 use Rattle.endian.specs.Numbers.{number, part}
 use Rattle.record.specs.Faults.{recordCodes}
 use Rattle.block.specs.Block.{countOf, place}
-use Rattle.block.specs.Faults.{lowest}
+use Rattle.block.specs.Faults.{lowest, codesAt}
 use Rattle.block.proofs.Header.{header-few, header-size}
-use Rattle.block.proofs.Walk.{codesAt, Passed, passed-none, passed-more, low-more, walk-refused, walk-accepted}
+use Rattle.block.proofs.Walk.{Passed, passed-none, passed-more, low-more, walk-refused, walk-accepted}
 use Rattle.block.proofs.check_records.Statement.{statement}
 use Rattle.block.proofs.check_records.Tie as tie
 
