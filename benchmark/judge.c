@@ -152,7 +152,7 @@ static void values9(const i64 (*n)[2], int eight, i64 *c) {
         for (int m = 0; m < 9; m += 2) r[m][k] = 4 * at[m][k];
         r[1][k] = 8 * at[1][k] - 2 * (at[0][k] + at[2][k]), r[3][k] = 8 * at[3][k] - 2 * (at[0][k] + at[6][k]);
         r[5][k] = 8 * at[5][k] - 2 * (at[2][k] + at[8][k]), r[7][k] = 8 * at[7][k] - 2 * (at[6][k] + at[8][k]);
-        r[4][k] = eight ? corners : 16 * at[4][k] - 4 * edges + corners;
+        r[4][k] = eight ? 4 * edges - 3 * corners : 16 * at[4][k] - 4 * edges + corners;
     }
     for (int I = 0; I < 4; I++)
         for (int J = 0; J < 4; J++) {

@@ -69,18 +69,19 @@ impl Element {
         det(xi, eta)
     }
 
-    // Four times the node ij of a quad; the centre of eight nodes is the mean of the edge nodes.
+    // Four times the node ij of a quad. The centre c of eight nodes is where 4c plus the corners minus twice the edge nodes is zero.
     fn fourfold(&self, i: usize, j: usize) -> [Num; 2] {
         let place = |i: usize, j: usize| {
             let k = i + 3 * j;
             if self.kind == 8 && k > 4 { k - 1 } else { k }
         };
         if self.kind == 8 && i == 1 && j == 1 {
-            let edges = [(1, 0), (0, 1), (2, 1), (1, 2)];
             let mut s = [0; 2];
-            for (a, b) in edges {
-                let n = self.node(place(a, b));
-                s = [s[0] + n[0], s[1] + n[1]];
+            for (weight, nodes) in [(-1, [(0, 0), (2, 0), (0, 2), (2, 2)]), (2, [(1, 0), (0, 1), (2, 1), (1, 2)])] {
+                for (a, b) in nodes {
+                    let n = self.node(place(a, b));
+                    s = [s[0] + weight * n[0], s[1] + weight * n[1]];
+                }
             }
             return s;
         }

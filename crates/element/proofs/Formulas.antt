@@ -6,7 +6,6 @@ use Prim.Native.Nat.{ℕ, zero, suc, _+_, _*_, _-_, _/_}
 use lib.Dec.{eqb}
 use Rattle.algebra.specs.Ops.{Ops}
 use Rattle.forms.specs.Binomials.{choose}
-use Rattle.element.specs.Nodes.{place8}
 
 pub record Pair (A : Type 0) : Type 0 where
   pub x : A
@@ -112,8 +111,14 @@ module _ {A : Type 0} (o : Ops A) where
     abbrev pub centre9 : Pair A
     centre9 = plus (less (by (num 16) (N 1 1)) (by (num 4) edgeSum)) cornerSum
 
-    abbrev pub fourfold8 : ℕ → ℕ → Pair A
-    fourfold8 i j = cond (eqb i 1 && eqb j 1) edgeSum (by (num 4) (N i j))
+    abbrev pub centre8 : Pair A
+    centre8 = less (by (num 4) edgeSum) (by (num 3) cornerSum)
+
+    abbrev pub centreNode : Pair A
+    centreNode = less (by (num 2) edgeSum) cornerSum
+
+    abbrev pub fourfold : Pair A → ℕ → ℕ → Pair A
+    fourfold c i j = cond (eqb i 1 && eqb j 1) c (by (num 4) (N i j))
 
     abbrev pub edge : Pair A → Pair A → Pair A → Pair A
     edge m a b = less (less (by (num 8) m) (by (num 2) a)) (by (num 2) b)

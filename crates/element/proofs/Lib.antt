@@ -1,6 +1,9 @@
 -- The laws of elements, one subject a file.
 pub mod Formulas
+pub mod Plane
 pub mod Sums
+pub mod Centre
+pub mod Mean
 pub mod Places
 pub mod Values
 pub mod Sizes

@@ -4,19 +4,18 @@
 --   triangle-coefficients : value k of the list of a triangle is 2 times the coefficient N_IJK of relation 24, at the degrees of its place
 --   quad-coefficients  : the value at place I + 4J of the list of a quad is 36 times the coefficient N_IJ of relation 27
 -- Assumes nothing.
-use mathlib.Core.Path.{_≡_, refl, sym, _∙_, ap}
+use mathlib.Core.Path.{_≡_, sym, _∙_, ap}
 use mathlib.Core.List.{List, [], _∷_}
 use Prim.Native.Nat.{ℕ, zero, suc, _+_, _*_, _/_, _^_, _<_}
 use native.Mathlib.Nat as N
 use native.Mathlib.Omega.{arith}
-use lib.Dec.{T, eqb, eqb→eq}
+use lib.Dec.{eqb, eqb→eq}
 use lib.IntN.{ℤ, pos, _+ℤ_, _-ℤ_, _*ℤ_, +ℤ-idl, +ℤ-idr, +ℤ-comm}
 use lib.ListN.{getD}
 use Rattle.algebra.specs.Expr.{Expr, exprs, var, con, _⊕_, _⊖_, _⊗_}
 use Rattle.algebra.proofs.Ring.{*ℤ-assoc, 1-*ℤ}
 use Rattle.algebra.proofs.Solve.{solve}
 use Rattle.forms.specs.Binomials.{choose}
-use Rattle.forms.specs.Cells.{every}
 use Rattle.forms.specs.Triangles.{degrees6}
 use Rattle.forms.specs.Quads.{sixteen}
 use Rattle.forms.proofs.Cells.{every-at}
@@ -28,6 +27,7 @@ use Rattle.element.specs.Control.{doubled, between, Q00, Q11, Q22, Q01, 
 use Rattle.element.specs.Paper.{relation24, Times24, relation27, Times27}
 use Rattle.element.proofs.Places.{grow-both}
 use Rattle.element.proofs.Formulas as E
+use Rattle.element.proofs.Plane.{vec-eq, along, gridE}
 
 ruleset drop-zeros = (+ℤ-idl, +ℤ-idr, 1-*ℤ, +ℤ-comm)
 
@@ -87,11 +87,11 @@ points-through-nodes6 xs = (at-middle (A0 xs) (M01 xs) (A1 xs), at-middle (A1 xs
         solve (a ∷ m ∷ b ∷ []) (con (pos 2) ⊗ var 0 ⊕ con (pos 2) ⊗ (con (pos 4) ⊗ var 1 ⊖ var 0 ⊖ var 2) ⊕ con (pos 2) ⊗ var 2) (con (pos 8) ⊗ var 1) tt
 
     at-middle : (a m b : Vec) → doubled a +ᵥ pos 2 *ᵥ between m a b +ᵥ doubled b ≡ pos 8 *ᵥ m
-    at-middle a m b = λ i. record { x = one (a .x) (m .x) (b .x) i; y = one (a .y) (m .y) (b .y) i }
+    at-middle a m b = vec-eq (one (a .x) (m .x) (b .x)) (one (a .y) (m .y) (b .y))
 
 -- on an edge of a quad; R is fourfold
 pub points-through-edge : (a m b : Vec) → pos 4 *ᵥ a +ᵥ pos 2 *ᵥ edge m a b +ᵥ pos 4 *ᵥ b ≡ pos 16 *ᵥ m
-points-through-edge a m b = λ i. record { x = one (a .x) (m .x) (b .x) i; y = one (a .y) (m .y) (b .y) i }
+points-through-edge a m b = vec-eq (one (a .x) (m .x) (b .x)) (one (a .y) (m .y) (b .y))
   where
     one : (a m b : ℤ) → pos 4 *ℤ a +ℤ pos 2 *ℤ (pos 8 *ℤ m -ℤ pos 2 *ℤ a -ℤ pos 2 *ℤ b) +ℤ pos 4 *ℤ b ≡ pos 16 *ℤ m
     one a m b =
@@ -105,17 +105,14 @@ bend R =
     R 0 0 +ᵥ pos 2 *ᵥ R 1 0 +ᵥ R 2 0 +ᵥ pos 2 *ᵥ (R 0 1 +ᵥ pos 2 *ᵥ R 1 1 +ᵥ R 2 1) +ᵥ (R 0 2 +ᵥ pos 2 *ᵥ R 1 2 +ᵥ R 2 2)
 
 pub points-through-centre : (A : ℕ → ℕ → Vec) → bend (points A (centre9 A)) ≡ pos 64 *ᵥ A 1 1
-points-through-centre A = λ i. record { x = solve (nodes (λ v. v .x)) left (con (pos 64) ⊗ var 4) tt i; y = solve (nodes (λ v. v .y)) left (con (pos 64) ⊗ var 4) tt i }
+points-through-centre A = vec-eq (solve (along (λ v. v .x) A) left right tt) (solve (along (λ v. v .y) A) left right tt)
   where
-    nodes : (Vec → ℤ) → List ℤ
-    nodes f = f (A 0 0) ∷ f (A 1 0) ∷ f (A 2 0) ∷ f (A 0 1) ∷ f (A 1 1) ∷ f (A 2 1) ∷ f (A 0 2) ∷ f (A 1 2) ∷ f (A 2 2) ∷ []
-
-    N : ℕ → ℕ → E.Pair Expr
-    N i j = record { x = var (i + 3 * j); y = var (i + 3 * j) }
-
     R : ℕ → ℕ → Expr
-    R i j = E.points exprs N (E.centre9 exprs N) i j .x
+    R i j = E.points exprs (gridE 0) (E.centre9 exprs (gridE 0)) i j .x
 
     left : Expr
     left =
         R 0 0 ⊕ con (pos 2) ⊗ R 1 0 ⊕ R 2 0 ⊕ con (pos 2) ⊗ (R 0 1 ⊕ con (pos 2) ⊗ R 1 1 ⊕ R 2 1) ⊕ (R 0 2 ⊕ con (pos 2) ⊗ R 1 2 ⊕ R 2 2)
+
+    right : Expr
+    right = con (pos 64) ⊗ var 4

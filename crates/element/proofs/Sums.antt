@@ -2,24 +2,21 @@
 --   sum6-is-J, sum9-is-J, sum8-is-J : at all weights, for six, nine and eight nodes
 --   scaled-sum6, scaled-sum9        : they are the values of the kind's form
 -- Assumes nothing.
-use mathlib.Core.Path.{_≡_, refl, sym, _∙_, ap}
+use mathlib.Core.Path.{_≡_}
 use mathlib.Core.List.{List, [], _∷_}
-use Prim.Native.Nat.{ℕ, zero, suc, _+_, _*_, _-_, _≤_}
-use native.Mathlib.Omega.{arith}
-use lib.IntN.{ℤ, pos, _+ℤ_, _-ℤ_, _*ℤ_}
-use lib.ListN.{getD}
+use Prim.Native.Nat.{ℕ, zero, suc, _+_, _*_}
+use lib.IntN.{ℤ, pos, _*ℤ_}
 use Rattle.algebra.specs.Expr.{Expr, exprs, var, con, _⊕_, _⊗_}
 use Rattle.algebra.proofs.Solve.{solve}
-use Rattle.forms.specs.Rows.{Row, weigh}
+use Rattle.forms.specs.Rows.{weigh}
 use Rattle.forms.specs.Forms.{value as formValue}
 use Rattle.forms.specs.Shapes.{scaled, spread}
 use Rattle.forms.specs.Triangles as T
 use Rattle.forms.specs.Quads as Q
-use Rattle.element.specs.Plane.{Vec}
 use Rattle.element.specs.Nodes.{place8}
-use Rattle.element.specs.Kinds.{Kind, six, eight, nine}
+use Rattle.element.specs.Kinds.{six, eight, nine}
 use Rattle.element.specs.Jacobian.{slopeξ, slopeη, J6, slopeU, slopeV, J9, fourfold8, J8}
-use Rattle.element.specs.Control.{values6, value, R8, R9, controlValues, at, sum6, sum9}
+use Rattle.element.specs.Control.{values6, value, controlValues, at, sum6, sum9}
 use Rattle.element.proofs.Formulas as E
 
 -- nodes as variables: the coordinates stand from variable b on
@@ -36,7 +33,7 @@ abbrev pub R9E : ℕ → ℕ → ℕ → E.Pair Expr
 R9E b = E.points exprs (A9E b) (E.centre9 exprs (A9E b))
 
 abbrev pub R8E : ℕ → ℕ → ℕ → E.Pair Expr
-R8E b = E.points exprs (A8E b) (E.cornerSum exprs (A8E b))
+R8E b = E.points exprs (A8E b) (E.centre8 exprs (A8E b))
 
 -- n numbers of the list from place k on
 abbrev pub numbers : List ℤ → ℕ → ℕ → List ℤ
@@ -66,7 +63,7 @@ module _ (xs : List ℤ) where
       solve
       (pos p ∷ pos m ∷ pos q ∷ pos n ∷ numbers xs 0 16)
       (con (pos 16) ⊗ E.sum9 exprs (E.value exprs (R8E 4)) (var 0) (var 1) (var 2) (var 3))
-      (con (pos 36) ⊗ E.JQ exprs (E.fourfold8 exprs (A8E 4)) (var 0) (var 1) (var 2) (var 3)) tt
+      (con (pos 36) ⊗ E.JQ exprs (E.fourfold exprs (A8E 4) (E.centreNode exprs (A8E 4))) (var 0) (var 1) (var 2) (var 3)) tt
 
 -- ---- the kind's form
 -- rows of weights as variables from b on

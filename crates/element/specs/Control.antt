@@ -2,8 +2,10 @@
 --   Q00 .. Q02 xs       == doubled control points of a triangle
 --   a0 .. a2, b0 .. b2 xs == their differences
 --   values6 xs          == c00, c11, c22, c01, c12, c02
---   edge, centre9, centre8 == fourfold control points of a quad: on an edge, and at the centre
---   R k xs i j          == the fourfold control point ij
+--   edge m a b          == the fourfold control point of a quad's edge
+--   centre9 A, centre8 A == and at the centre, of nine nodes and of eight
+--   points A c          == all nine, with the given one at the centre
+--   R9, R8 xs i j       == the fourfold control point ij
 --   α, β R i j          == differences along u and along v
 --   value R I J         == value (I, J), by the sum over the four indices
 --   controlValues k xs  == the control values of the element
@@ -23,6 +25,7 @@ use Rattle.element.specs.Kinds.{Kind, six, eight, nine}
 use Rattle.element.specs.Places.{Place}
 use Rattle.element.specs.Plane.{Vec, _+ᵥ_, _-ᵥ_, _*ᵥ_, det, sum}
 use Rattle.element.specs.Nodes.{A0, A1, A2, M01, M12, M02, A9, A8}
+use Rattle.element.specs.Centre.{cornerSum, edgeSum}
 
 -- ---- triangle: "Qkk = 2Ak, Qkl = 4Mkl - Ak - Al"
 abbrev pub doubled : Vec → Vec
@@ -79,14 +82,12 @@ abbrev pub edge : Vec → Vec → Vec → Vec
 edge m a b = pos 8 *ᵥ m -ᵥ pos 2 *ᵥ a -ᵥ pos 2 *ᵥ b
 
 module _ (A : ℕ → ℕ → Vec) where
-  abbrev pub cornerSum : Vec
-  cornerSum = A 0 0 +ᵥ A 2 0 +ᵥ A 0 2 +ᵥ A 2 2
-
-  abbrev pub edgeSum : Vec
-  edgeSum = A 1 0 +ᵥ A 0 1 +ᵥ A 2 1 +ᵥ A 1 2
-
   abbrev pub centre9 : Vec
-  centre9 = pos 16 *ᵥ A 1 1 -ᵥ pos 4 *ᵥ edgeSum +ᵥ cornerSum
+  centre9 = pos 16 *ᵥ A 1 1 -ᵥ pos 4 *ᵥ edgeSum A +ᵥ cornerSum A
+
+  -- "the fourfold centre control point is four times the edge sum minus three times the corner sum"
+  abbrev pub centre8 : Vec
+  centre8 = pos 4 *ᵥ edgeSum A -ᵥ pos 3 *ᵥ cornerSum A
 
   -- corners and edges from the nodes A, and the given centre
   abbrev pub points : Vec → ℕ → ℕ → Vec
@@ -103,9 +104,8 @@ module _ (A : ℕ → ℕ → Vec) where
 abbrev pub R9 : List ℤ → ℕ → ℕ → Vec
 R9 xs = points (A9 xs) (centre9 (A9 xs))
 
--- "so R11 is the sum of the corners"
 abbrev pub R8 : List ℤ → ℕ → ℕ → Vec
-R8 xs = points (A8 xs) (cornerSum (A8 xs))
+R8 xs = points (A8 xs) (centre8 (A8 xs))
 
 module _ (R : ℕ → ℕ → Vec) where
   abbrev pub α : ℕ → ℕ → Vec

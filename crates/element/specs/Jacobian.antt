@@ -4,26 +4,27 @@
 --   J6 xs p q r               == their determinant, w²·J
 --   s p m i, s' p m i         == the shape functions of one direction and their slopes, at p/m
 --   slopeU, slopeV N p m q n  == mn²·X_u and m²n·X_v of a quad with the nodes N at u = p/m, v = q/n
---   J9 xs p m q n             == their determinant for nine nodes, m³n³·J
---   fourfold8 xs i j          == four times the nodes of an eight-node quad, its centre the mean of the edge nodes
+--   JQ N p m q n              == their determinant, m³n³·J
+--   J9 xs p m q n             == that of nine nodes
+--   fourfold8 xs i j          == four times the nodes of an eight-node quad, its centre by relation 31
 --   J8 xs p m q n             == the determinant of both slopes taken fourfold, 16·m³n³·J
 --   jacobian k xs x           == the determinant at the place x of an element of kind k
 --   fold k                    == how many fold the slopes are taken: 4 for eight nodes, else 1
 --   factor k x                == jacobian k xs x is so many times J at the place x: fold² times w², or m³n³
---   Bad k xs d i j            == J is not positive at the point (i, j) of the grid of level d
---   Shows k xs d i j z        == z is J at that point times the scale of level d, without division
+--   BadBy k f d i j           == f is not positive at the point (i, j) of the grid of level d, f so many times a number as `factor` says
+--   ShowsBy k f d i j z       == z is that number there times the scale of level d, without division
+--   Bad k xs d i j, Shows k xs d i j z == the same of J
 -- Definitions only.
 use mathlib.Core.Path.{_≡_}
-use mathlib.Core.Bool.{cond, _&&_}
 use mathlib.Core.List.{List}
 use Prim.Native.Nat.{ℕ, zero, suc, _*_}
-use lib.Dec.{eqb}
 use lib.IntN.{ℤ, pos, _+ℤ_, _-ℤ_, _*ℤ_}
 use lib.Signed.{_≤ℤ_}
 use Rattle.element.specs.Kinds.{Kind, six, eight, nine, scale}
 use Rattle.element.specs.Plane.{Vec, _+ᵥ_, _-ᵥ_, _*ᵥ_, det, sumᵥ}
 use Rattle.element.specs.Places.{Place, weightOf, AtGrid}
 use Rattle.element.specs.Nodes.{A0, A1, A2, M01, M12, M02, A9, A8}
+use Rattle.element.specs.Centre.{fourfold, centreNode}
 
 -- ---- triangle
 -- "w·X_ξ = (4q-w)A1 - (4p-w)A0 + 4(p-q)M01 + 4r(M12-M02)"
@@ -61,15 +62,17 @@ slopeU N p m q n = sumᵥ 3 (λ i. sumᵥ 3 (λ j. (s' p m i *ℤ s q n j) *ᵥ 
 unfoldable pub slopeV : (ℕ → ℕ → Vec) → ℤ → ℤ → ℤ → ℤ → Vec
 slopeV N p m q n = sumᵥ 3 (λ i. sumᵥ 3 (λ j. (s p m i *ℤ s' q n j) *ᵥ N i j))
 
-unfoldable pub J9 : List ℤ → ℕ → ℕ → ℕ → ℕ → ℤ
-J9 xs p m q n = det (slopeU (A9 xs) (pos p) (pos m) (pos q) (pos n)) (slopeV (A9 xs) (pos p) (pos m) (pos q) (pos n))
+abbrev pub JQ : (ℕ → ℕ → Vec) → ℕ → ℕ → ℕ → ℕ → ℤ
+JQ N p m q n = det (slopeU N (pos p) (pos m) (pos q) (pos n)) (slopeV N (pos p) (pos m) (pos q) (pos n))
 
--- four times each node; "the centre node is the mean of the four edge nodes"
+unfoldable pub J9 : List ℤ → ℕ → ℕ → ℕ → ℕ → ℤ
+J9 xs p m q n = JQ (A9 xs) p m q n
+
 unfoldable pub fourfold8 : List ℤ → ℕ → ℕ → Vec
-fourfold8 xs i j = cond (eqb i 1 && eqb j 1) (A8 xs 1 0 +ᵥ A8 xs 0 1 +ᵥ A8 xs 2 1 +ᵥ A8 xs 1 2) (pos 4 *ᵥ A8 xs i j)
+fourfold8 xs = fourfold (A8 xs) (centreNode (A8 xs))
 
 unfoldable pub J8 : List ℤ → ℕ → ℕ → ℕ → ℕ → ℤ
-J8 xs p m q n = det (slopeU (fourfold8 xs) (pos p) (pos m) (pos q) (pos n)) (slopeV (fourfold8 xs) (pos p) (pos m) (pos q) (pos n))
+J8 xs p m q n = JQ (fourfold8 xs) p m q n
 
 -- ---- at a point
 abbrev pub jacobian : (k : Kind) → List ℤ → Place k → ℤ
@@ -86,14 +89,21 @@ fold nine = 1
 abbrev pub factor : (k : Kind) → Place k → ℕ
 factor k x = fold k * fold k * weightOf k x
 
--- "A point is bad when J ≤ 0 there"
-pub record Bad (k : Kind) (xs : List ℤ) (d i j : ℕ) : Type 0 where
+-- ---- at a grid point, of any number f at the places of the element
+pub record BadBy (k : Kind) (f : Place k → ℤ) (d i j : ℕ) : Type 0 where
   pub place : Place k
   pub at-point : AtGrid k d i j place
-  pub not-positive : jacobian k xs place ≤ℤ pos 0
+  pub not-positive : f place ≤ℤ pos 0
+
+pub record ShowsBy (k : Kind) (f : Place k → ℤ) (d i j : ℕ) (z : ℤ) : Type 0 where
+  pub place : Place k
+  pub at-point : AtGrid k d i j place
+  pub shown : pos (factor k place) *ℤ z ≡ pos (scale k d) *ℤ f place
+
+-- "A point is bad when J ≤ 0 there"
+abbrev pub Bad : Kind → List ℤ → ℕ → ℕ → ℕ → Type 0
+Bad k xs = BadBy k (jacobian k xs)
 
 -- "the scaled J there", with the table's "scale at level d"
-pub record Shows (k : Kind) (xs : List ℤ) (d i j : ℕ) (z : ℤ) : Type 0 where
-  pub place : Place k
-  pub at-point : AtGrid k d i j place
-  pub shown : pos (factor k place) *ℤ z ≡ pos (scale k d) *ℤ jacobian k xs place
+abbrev pub Shows : Kind → List ℤ → ℕ → ℕ → ℕ → ℤ → Type 0
+Shows k xs = ShowsBy k (jacobian k xs)

@@ -3,6 +3,7 @@ pub mod Kinds
 pub mod Places
 pub mod Plane
 pub mod Nodes
+pub mod Centre
 pub mod Jacobian
 pub mod Control
 pub mod Paper

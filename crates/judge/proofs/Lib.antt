@@ -6,3 +6,4 @@ pub mod Search
 pub mod Computed
 pub mod Demands
 pub mod Twelve
+pub mod Mean

@@ -27,7 +27,8 @@ module _ {n : List ℤ} (p : Nine 2048 n) where
   four-small a b c d = within-+ (within-+ (within-+ (p .each .at a) (p .each .at b)) (p .each .at c)) (p .each .at d)
 
   pub centre-small : (b : Bool) → Within 73728 (centre n b)
-  centre-small true = within-≤ (four-small 0 2 6 8) (lit≤ tt)
+  centre-small true =
+      within-≤ (within-- (within-* (within-pos 4) (four-small 1 3 5 7)) (within-* (within-pos 3) (four-small 0 2 6 8))) (lit≤ tt)
   centre-small false =
       within-+ (within-- (within-* (within-pos 16) (p .each .at 4)) (within-* (within-pos 4) (four-small 1 3 5 7))) (four-small 0 2 6 8)
 

@@ -34,8 +34,10 @@ edge n m a b = pos 8 *ℤ at n m -ℤ pos 2 *ℤ at n a -ℤ pos 2 *ℤ at n b
 abbrev pub four : List ℤ → ℕ → ℕ → ℕ → ℕ → ℤ
 four n a b c d = at n a +ℤ at n b +ℤ at n c +ℤ at n d
 
+-- of eight nodes "four times the edge sum minus three times the corner sum"
 abbrev pub centre : List ℤ → Bool → ℤ
-centre n b = cond b (four n 0 2 6 8) (pos 16 *ℤ at n 4 -ℤ pos 4 *ℤ four n 1 3 5 7 +ℤ four n 0 2 6 8)
+centre n b =
+    cond b (pos 4 *ℤ four n 1 3 5 7 -ℤ pos 3 *ℤ four n 0 2 6 8) (pos 16 *ℤ at n 4 -ℤ pos 4 *ℤ four n 1 3 5 7 +ℤ four n 0 2 6 8)
 
 abbrev pub points9 : List ℤ → Bool → List ℤ
 points9 n b =

@@ -44,10 +44,11 @@ fn centre(n: &[i64; 9], eight: bool) -> i64
     ensures { λ r. ⌜ r ≡ spec.centre (now (n .entry)) eight ⌝ }
 {
     let corners = four(n, 0, 2, 6, 8);
+    let edges = four(n, 1, 3, 5, 7);
     if eight {
-        return corners;
+        return 4 * edges - 3 * corners;
     }
-    16 * pick(n, 4) - 4 * four(n, 1, 3, 5, 7) + corners
+    16 * pick(n, 4) - 4 * edges + corners
 }
 
 // The fourfold control points, along one coordinate.

@@ -9,6 +9,7 @@
 --   four-cells       : G(3,4) under the limit 3 has 4 cells, not 64 nor any other number
 --   not-undecided   : F(0) is not undecided
 --   not-guessed : G(8,4) under the limit 0 is
+--   centre-counts : the eight-node quad `apart` is not valid under any limit, since J is negative at a point of it by relation 31
 -- Assumes nothing.
 use mathlib.Core.Path.{_≡_, sym, _∙_, ap}
 use mathlib.Core.List.{List}
@@ -17,14 +18,18 @@ use Prim.Native.Nat.{ℕ, _≤_, _<_}
 use native.Mathlib.Nat as N
 use native.Mathlib.Omega.{arith}
 use lib.IntN.{ℤ}
+use lib.Signed.{clashℤ}
+use Rattle.algebra.proofs.Order.{<-≤}
 use Rattle.element.specs.Kinds.{kindOf, NotKind, greatestLevel}
 use Rattle.element.specs.Refusals.{Refused, Accepted, verdictCodes}
+use Rattle.element.proofs.Mean.{apart, right, mean-parts}
 use Rattle.element.proofs.Refusals.{refused-accepted}
 use Rattle.judge.specs.Verdict.{is-valid}
 use Rattle.judge.specs.Twelve.{F, G}
 use Rattle.verdict.specs.Calls.{given, refusal, VerdictOf}
 use Rattle.verdict.specs.declared.Word.the-variants.{Valid, Invalid, Undecided}
 use Rattle.verdict.specs.declared.Judged.{Judged}
+use Rattle.verdict.proofs.Outcomes.{valid-positive}
 use Rattle.verdict.proofs.Twelve.{twelve-called}
 
 module _ (n l : ℕ) (xs : List ℤ) (r : Judged) where
@@ -82,3 +87,7 @@ module _ (r : Judged) where
 
   pub not-guessed : VerdictOf 6 0 (G 8 4) r → r .word ≡ Undecided
   not-guessed v = ap (λ (q : Judged). q .word) (twelve-called .1 .1 .1 .1 .1 .1 .1 .1 .0 r v)
+
+  -- ---- by J
+  pub centre-counts : (l : ℕ) → VerdictOf 8 l apart r → ¬ (r .word ≡ Valid)
+  centre-counts l v e = clashℤ (valid-positive 8 l apart r v e right) (<-≤ (mean-parts .1))
