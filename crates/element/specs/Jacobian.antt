@@ -11,9 +11,10 @@
 --   jacobian k xs x           == the determinant at the place x of an element of kind k
 --   fold k                    == how many fold the slopes are taken: 4 for eight nodes, else 1
 --   factor k x                == jacobian k xs x is so many times J at the place x: fold² times w², or m³n³
---   BadBy k f d i j           == f is not positive at the point (i, j) of the grid of level d, f so many times a number as `factor` says
---   ShowsBy k f d i j z       == z is that number there times the scale of level d, without division
---   Bad k xs d i j, Shows k xs d i j z == the same of J
+--   BadBy k f d i j           == f, a whole number at each place, is not positive at the point (i, j) of the grid of level d
+--   ShowsBy k f d i j z       == z is f divided by `factor` at that point, times the scale of level d, without division
+--   Bad k xs d i j            == J is not positive at that point
+--   Shows k xs d i j z        == z is J there times the scale of level d
 -- Definitions only.
 use mathlib.Core.Path.{_≡_}
 use mathlib.Core.List.{List}
@@ -89,7 +90,7 @@ fold nine = 1
 abbrev pub factor : (k : Kind) → Place k → ℕ
 factor k x = fold k * fold k * weightOf k x
 
--- ---- at a grid point, of any number f at the places of the element
+-- ---- at a grid point, where f has a whole number for each place
 pub record BadBy (k : Kind) (f : Place k → ℤ) (d i j : ℕ) : Type 0 where
   pub place : Place k
   pub at-point : AtGrid k d i j place
