@@ -88,6 +88,36 @@ pub fn check(b: &[u8]) -> Result<usize, (u8, usize)> {
     Ok(count as usize)
 }
 
+// The count of the block in the first `used` bytes, or the code and the record of the first fault.
+pub fn check_used(b: &[u8], used: u64) -> Result<usize, (u8, usize)> {
+    if used > b.len() as u64 {
+        return Err((5, 0));
+    }
+    check(&b[..used as usize])
+}
+
+// Appends a record to the block in the first `used` bytes: the new `used`, or the code and the record of the first fault.
+pub fn append(b: &mut [u8], used: u64, r: &Record) -> Result<u64, (u8, usize)> {
+    let count = check_used(b, used)?;
+    let at = used as usize;
+    match code(&r.element, true) {
+        0 => {}
+        c => return Err((c, 0)),
+    }
+    if count > 0 && r.id <= stored(b, count - 1).id {
+        return Err((10, 0));
+    }
+    if count == 800 {
+        return Err((11, 0));
+    }
+    if b.len() - at < 80 {
+        return Err((5, 0));
+    }
+    b[at..at + 80].copy_from_slice(&record_bytes(r));
+    b[5..9].copy_from_slice(&(count as u32 + 1).to_le_bytes());
+    Ok(used + 80)
+}
+
 // What `verdicts` prints, its lines.
 pub fn list(b: &[u8]) -> Vec<String> {
     let count = match check(b) {

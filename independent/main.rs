@@ -1,15 +1,20 @@
-// An independent judge: it makes sets of elements and blocks from fixed seeds, and writes what the checker must answer to them.
-//   independent DIR    writes DIR/calls.txt and DIR/lists.txt
-// A line of calls.txt is `a line for the program calls -> its answer`; one of lists.txt is `a block in hex -> what the program
-// verdicts prints, its lines joined by " / "`.
+// An independent judge: it makes sets of elements, blocks and mesh texts from fixed seeds, and writes what the checker must answer to them.
+//   independent DIR    writes DIR/calls.txt, DIR/lists.txt and DIR/meshes.txt
+//   independent -      answers the lines `mesh ..` of standard input, a line each
+// A line of calls.txt and of meshes.txt is `a line for the program calls -> its answer`; one of lists.txt is `a block in hex -> what the
+// program verdicts prints, its lines joined by " / "`.
 
 mod block;
 mod element;
+mod mesh;
 mod sets;
+mod texts;
 
 use block::{block_bytes, check, hex, list, stored, Record};
 use element::{code, Element};
+use mesh::append_mesh;
 use sets::{elements, Random};
+use texts::Question;
 use std::fmt::Write as _;
 use std::sync::{Arc, Mutex};
 
@@ -138,8 +143,42 @@ fn in_parallel(list: Vec<Element>, f: fn(&Element) -> String) -> Vec<String> {
     Arc::try_unwrap(out).unwrap().into_inner().unwrap()
 }
 
+// The call as a line for the program `calls`.
+fn mesh_question(q: &Question) -> String {
+    format!("mesh {} {} {} {}", q.limit, q.used, hex(&q.buffer), hex(&q.text))
+}
+
+// The answer of `calls` to that line.
+fn mesh_answer(q: &Question) -> String {
+    let (m, after) = append_mesh(&q.text, q.limit, &q.buffer, q.used);
+    format!("{} {} {} {} {} {}", m.code, m.record, m.used, m.appended, m.passed, hex(&after))
+}
+
+// The bytes that `hex` wrote.
+fn unhex(h: &str) -> Option<Vec<u8>> {
+    if h == "-" {
+        return Some(Vec::new());
+    }
+    h.as_bytes().chunks(2).map(|c| u8::from_str_radix(std::str::from_utf8(c).ok()?, 16).ok()).collect()
+}
+
+// What `mesh_question` wrote.
+fn parsed(line: &str) -> Option<Question> {
+    let w: Vec<&str> = line.split(' ').collect();
+    if w.len() != 5 || w[0] != "mesh" {
+        return None;
+    }
+    Some(Question { limit: w[1].parse().ok()?, used: w[2].parse().ok()?, buffer: unhex(w[3])?, text: unhex(w[4])? })
+}
+
 fn main() {
-    let dir = std::env::args().nth(1).expect("usage: independent DIR");
+    let dir = std::env::args().nth(1).expect("usage: independent DIR, or independent -");
+    if dir == "-" {
+        for line in std::io::stdin().lines() {
+            println!("{}", parsed(&line.expect("a line")).map_or("?".to_string(), |q| mesh_answer(&q)));
+        }
+        return;
+    }
     let all = elements();
     let mut r = Random(7);
     let mut calls = String::new();
@@ -165,4 +204,6 @@ fn main() {
     calls += &verdicts.concat();
     std::fs::write(format!("{}/calls.txt", dir), calls).expect("calls.txt");
     std::fs::write(format!("{}/lists.txt", dir), lists).expect("lists.txt");
+    let meshes: String = texts::questions().iter().map(|q| format!("{} -> {}\n", mesh_question(q), mesh_answer(q))).collect();
+    std::fs::write(format!("{}/meshes.txt", dir), meshes).expect("meshes.txt");
 }

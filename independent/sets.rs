@@ -30,7 +30,7 @@ fn clamp(kind: u8, x: i64) -> i32 {
 }
 
 // A straight-sided element of a size, turned by a shear, its nodes moved by at most `noise`.
-fn shaken(r: &mut Random, kind: u8, size: i64, noise: i64) -> Vec<i32> {
+pub fn shaken(r: &mut Random, kind: u8, size: i64, noise: i64) -> Vec<i32> {
     let half: Vec<(i64, i64)> = match kind {
         6 => vec![(0, 0), (2, 0), (0, 2), (1, 0), (1, 1), (0, 1)],
         8 => vec![(0, 0), (1, 0), (2, 0), (0, 1), (2, 1), (0, 2), (1, 2), (2, 2)],

@@ -4,3 +4,8 @@ pub mod Written
 pub mod Orders
 pub mod Outcomes
 pub mod Runs
+pub mod States
+pub mod Filled
+pub mod Series
+pub mod Fronts
+pub mod Turns

@@ -1,7 +1,9 @@
 -- The order of an append, test by test.
 --   allows-refused, allows-allowed : the answer of the test of an append, by its code
---   block-refused, element-refused, new-refused, room-accepted : the order over a block, from its parts
---   used-refused, room-refused, append-accepted : the order of `append_record`, from its parts
+--   coded-then     : the code of two orders, the first without a fault
+--   given l room id n level xs == the order of the element and of its place behind the block l
+--   block-refused, given-refused, given-accepted : the order over a block, from its parts
+--   used-refused, room-refused, buffer-refused, append-accepted : the order of `append_record`, from its parts
 --   Sound b used id n level xs == what an append that is accepted has met; append-sound
 -- Assumes nothing.
 use mathlib.Core.Path.{_≡_, refl, ap}
@@ -12,13 +14,13 @@ use native.Mathlib.Nat as N
 use native.Mathlib.Omega.{arith}
 use lib.IntN.{ℤ}
 use lib.ListN.{length, take}
-use Rattle.element.specs.Refusals.{Codes, Refused, Accepted, verdictCodes}
+use Rattle.element.specs.Refusals.{Codes, Refused, Accepted, Coded, refused, accepted, verdictCodes}
 use Rattle.element.proofs.Refusals.{refused-some}
 use Rattle.block.specs.declared.Checked.{Checked}
 use Rattle.block.specs.Faults.{Fault, _then_, naming, blockCodes}
 use Rattle.block.proofs.Orders.{refused-then, past-then, accepted-then, then-accepted, then-refused, refused-of, accepted-of, of-accepted, of-refused}
 use Rattle.block.proofs.Walk.{block-some}
-use Rattle.append.specs.Append.{newCodes, roomCodes, appendCodes}
+use Rattle.append.specs.Append.{newCodes, roomCodes, bufferCodes, appendCodes}
 use Rattle.append.specs.Calls.{IsAllowed, Allows}
 
 pub allows-refused : (o : Codes Fault) (l : List ℕ) (r : Checked) → Allows o l r → ¬ (r .code ≡ 0) → Refused o (record { code = r .code; number = r .number })
@@ -29,26 +31,22 @@ pub allows-allowed : (o : Codes Fault) (l : List ℕ) (r : Checked) → Allows o
 allows-allowed o l r (inl p) h = absurd (p .some h)
 allows-allowed o l r (inr p) h = p
 
+pub coded-then : (o p : Codes ℕ) (c : ℕ) → Accepted o → Coded p c → Coded (o then p) c
+coded-then o p c a (refused r) = refused (past-then o p c a r)
+coded-then o p c a (accepted w e) = accepted (accepted-then o p a w) e
+
 module _ (l : List ℕ) (room id n level : ℕ) (xs : List ℤ) where
-  abbrev given : Codes ℕ
+  abbrev pub given : Codes ℕ
   given = verdictCodes n level xs then newCodes l room id
 
   pub block-refused : (f : Fault) → Refused (blockCodes l) f → Refused (roomCodes l room id n level xs) f
   block-refused f r = refused-then (blockCodes l) (naming 0 given) f r
 
-  given-refused : (c : ℕ) → Accepted (blockCodes l) → Refused given c → Refused (roomCodes l room id n level xs) (record { code = c; number = 0 })
+  pub given-refused : (c : ℕ) → Accepted (blockCodes l) → Refused given c → Refused (roomCodes l room id n level xs) (record { code = c; number = 0 })
   given-refused c a r = past-then (blockCodes l) (naming 0 given) (record { code = c; number = 0 }) a (refused-of 0 given c r)
 
-  pub element-refused : (c : ℕ) → Accepted (blockCodes l) → Refused (verdictCodes n level xs) c
-      → Refused (roomCodes l room id n level xs) (record { code = c; number = 0 })
-  element-refused c a r = given-refused c a (refused-then (verdictCodes n level xs) (newCodes l room id) c r)
-
-  pub new-refused : (c : ℕ) → Accepted (blockCodes l) → Accepted (verdictCodes n level xs) → Refused (newCodes l room id) c
-      → Refused (roomCodes l room id n level xs) (record { code = c; number = 0 })
-  new-refused c a v r = given-refused c a (past-then (verdictCodes n level xs) (newCodes l room id) c v r)
-
-  pub room-accepted : Accepted (blockCodes l) → Accepted (verdictCodes n level xs) → Accepted (newCodes l room id) → Accepted (roomCodes l room id n level xs)
-  room-accepted a v w = accepted-then (blockCodes l) (naming 0 given) a (accepted-of 0 given (accepted-then (verdictCodes n level xs) (newCodes l room id) v w))
+  pub given-accepted : Accepted (blockCodes l) → Accepted given → Accepted (roomCodes l room id n level xs)
+  given-accepted a w = accepted-then (blockCodes l) (naming 0 given) a (accepted-of 0 given w)
 
   pub record RoomSound : Type 0 where
     pub block : Accepted (blockCodes l)
@@ -70,6 +68,10 @@ module _ (b : List ℕ) (used id n level : ℕ) (xs : List ℤ) where
 
   pub room-refused : (f : Fault) → used ≤ length b → Refused inner f → Refused (appendCodes b used id n level xs) f
   room-refused f h r = inr ((λ q. N.not-le-of-lt q h), r)
+
+  pub buffer-refused : (f : Fault) → Refused (bufferCodes b used) f → Refused (appendCodes b used id n level xs) f
+  buffer-refused f (inl r) = inl r
+  buffer-refused f (inr (h, r)) = inr (h, block-refused (take used b) (length b - used) id n level xs f r)
 
   pub append-accepted : used ≤ length b → Accepted inner → Accepted (appendCodes b used id n level xs)
   append-accepted h a = ((λ q. N.not-le-of-lt q h), a)

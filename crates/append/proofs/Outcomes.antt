@@ -13,7 +13,7 @@ use Rattle.block.specs.Faults.{Fault}
 use Rattle.append.specs.declared.Started.{Started}
 use Rattle.append.specs.declared.Appended.{Appended}
 use Rattle.append.specs.Append.{appendCodes, startCodes}
-use Rattle.append.specs.Calls.{NotStarted, IsStarted, Starts, NotAppended, IsAppended, Appends}
+use Rattle.append.specs.Calls.{IsStarted, Starts, NotAppended, IsAppended, Appends}
 use Rattle.append.proofs.Orders.{append-some}
 
 -- ---- start

@@ -1,5 +1,7 @@
 -- What is appended is read back.
+--   last-record, more-length : a list with one record more
 --   new-formed     : a record that is accepted is well-formed; its used coordinates are those given
+--   block-over     : bytes written behind a block, and another count
 --   appended-bytes, appended-holds : an accepted append leaves the block of the old records and the new one
 --   appended-rest  : and all bytes behind it
 --   built-holds    : after a start and any run of accepted appends the first `used` bytes are the block of the records appended
@@ -56,13 +58,13 @@ module _ {l : List ℕ} {room id n level : ℕ} {xs : List ℤ} (s : RoomSound l
   new-used = padded-used xs (2 * n) given
 
 -- ---- lists
-last-record : (rs : List Record) (r : Record) → record-of (rs ++ (r ∷ [])) (length rs) ≡ r
+pub last-record : (rs : List Record) (r : Record) → record-of (rs ++ (r ∷ [])) (length rs) ≡ r
 last-record rs r = getD-append-seam rs r [] blank
 
 old-record : (rs : List Record) (r : Record) (k : ℕ) → k < length rs → record-of (rs ++ (r ∷ [])) k ≡ record-of rs k
 old-record rs r k h = List·getD-append rs (r ∷ []) blank k h
 
-more-length : (rs : List Record) (r : Record) → length (rs ++ (r ∷ [])) ≡ suc (length rs)
+pub more-length : (rs : List Record) (r : Record) → length (rs ++ (r ∷ [])) ≡ suc (length rs)
 more-length rs r = length-append rs (r ∷ []) ∙ add-one (length rs)
 
 -- ---- the bytes
@@ -71,16 +73,20 @@ block-more rs r =
     ap₂ (λ (n : ℕ) (s : List ℕ). header n ++ s) (more-length rs r)
     (records-more rs (r ∷ []) ∙ ap (λ (s : List ℕ). recordsBytes rs ++ s) (append-nil (recordBytes r)))
 
--- the block's bytes, with the record behind them and the new count
+-- the block's bytes, with others behind them and another count
+pub block-over : (b : List ℕ) (used : ℕ) (rs : List Record) (v : List ℕ) (n : ℕ) → take used b ≡ blockBytes rs
+    → withCount (over b used v) n ≡ (header n ++ (recordsBytes rs ++ v)) ++ drop (used + length v) b
+block-over b used rs v n e =
+    let rest = drop (used + length v) b in
+    ap (λ (s : List ℕ). withCount (s ++ (v ++ rest)) n) e
+    ∙ ap (λ (s : List ℕ). header n ++ s) (sym (append-assoc (recordsBytes rs) v rest))
+    ∙ sym (append-assoc (header n) (recordsBytes rs ++ v) rest)
+
 written-is : (b : List ℕ) (used : ℕ) (rs : List Record) (r : Record) → take used b ≡ blockBytes rs → length (recordBytes r) ≡ 80
     → withCount (over b used (recordBytes r)) (suc (length rs)) ≡ blockBytes (rs ++ (r ∷ [])) ++ drop (used + 80) b
 written-is b used rs r e n =
-    let rest = drop (used + 80) b in
-    ap (λ (s : List ℕ). withCount s (suc (length rs)))
-    (ap₂ (λ (s : List ℕ) (i : ℕ). s ++ (recordBytes r ++ drop (used + i) b)) e n)
-    ∙ ap (λ (s : List ℕ). header (suc (length rs)) ++ s) (sym (append-assoc (recordsBytes rs) (recordBytes r) rest))
-    ∙ sym (append-assoc (header (suc (length rs))) (recordsBytes rs ++ recordBytes r) rest)
-    ∙ ap (λ (s : List ℕ). s ++ rest) (sym (block-more rs r))
+    block-over b used rs (recordBytes r) (suc (length rs)) e
+    ∙ ap₂ (λ (s : List ℕ) (i : ℕ). s ++ drop (used + i) b) (sym (block-more rs r)) n
 
 -- ---- an accepted append
 module _ {b : List ℕ} {used id n level : ℕ} {xs : List ℤ} {r : Appended} {a : List ℕ} {rs : List Record}

@@ -12,10 +12,11 @@ ghost use lib.ListN.{length};
 ghost use Rattle.element.specs.Refusals.{Coded};
 ghost use Rattle.endian.specs.Numbers.{over};
 ghost use Rattle.record.specs.Record.{numbersBytes, recordBytes};
-ghost use Rattle.block.specs.Block.{place, countOf};
+ghost use Rattle.block.specs.Block.{place};
 ghost use Rattle.block.specs.Faults.{lowest};
-ghost use Rattle.append.specs.Append.{padded, newCodes, roomCodes};
+ghost use Rattle.append.specs.Append.{padded, followCodes, roomCodes};
 ghost use Rattle.append.specs.Calls.{Starts, Allows, Appends};
+ghost use Rattle.append.specs.Series.{nextCodes};
 
 // The code, the record number, and how many bytes are used.
 pub struct Started {
@@ -56,7 +57,7 @@ pub fn start_block(buffer: &mut [u8]) -> Started
 }
 
 // Nine pairs: the coordinates, and then zeros.
-fn pad(coords: &[i32]) -> [i32; 18]
+pub fn pad(coords: &[i32]) -> [i32; 18]
     requires { ⌜ length (now coords) ≤ 18 ⌝ }
     ensures { λ r. ⌜ r ≡ padded (now (coords .entry)) ⌝ }
 {
@@ -85,7 +86,7 @@ fn put_numbers(s: &mut [u8], at: usize, zs: [i32; 18])
 }
 
 // A record, written at a place.
-fn put_record(s: &mut [u8], at: usize, r: Record)
+pub fn put_record(s: &mut [u8], at: usize, r: Record)
     requires { ⌜ at + 80 ≤ length (now s) ⌝ }
     ensures { λ _. ⌜ now (s .exit) ≡ over (now (s .entry)) at (recordBytes r) ⌝ }
 {
@@ -104,7 +105,7 @@ fn put_record(s: &mut [u8], at: usize, r: Record)
 }
 
 // The least id that may follow the records of a block.
-fn lowest_id(bytes: &[u8], count: u32) -> u64
+pub fn lowest_id(bytes: &[u8], count: u32) -> u64
     requires { ⌜ place count ≤ length (now bytes) ⌝ }
     ensures { λ r. ⌜ r ≡ lowest (now (bytes .entry)) count ⌝ }
 {
@@ -115,13 +116,11 @@ fn lowest_id(bytes: &[u8], count: u32) -> u64
     (r.id as u64) + 1
 }
 
-// Code 10, 11 or 5, or 0, for a record behind a block.
-fn new_code(bytes: &[u8], count: u32, room: usize, id: u32) -> u8
-    requires long { ⌜ place count ≤ length (now bytes) ⌝ }
-    requires counted { ⌜ count ≡ countOf (now bytes) ⌝ }
-    ensures { λ r. ⌜ Coded (newCodes (now (bytes .entry)) room id) r ⌝ }
+// Code 10, 11 or 5, or 0, for a record behind a block of which low is the least id that may follow.
+pub fn follow_code(low: u64, count: u32, room: usize, id: u32) -> u8
+    ensures { λ r. ⌜ Coded (followCodes low count room id) r ⌝ }
 {
-    if (id as u64) < lowest_id(bytes, count) {
+    if (id as u64) < low {
         return 10;
     }
     if 800 <= count {
@@ -133,6 +132,25 @@ fn new_code(bytes: &[u8], count: u32, room: usize, id: u32) -> u8
     0
 }
 
+// Code 1, 2, 3 or 4, then 10, 11 or 5, or 0, for an element behind such a block.
+pub fn next_code(
+    low: u64,
+    count: u32,
+    room: usize,
+    id: u32,
+    kind: u8,
+    limit: u8,
+    coords: &[i32],
+) -> u8
+    ensures { λ r. ⌜ Coded (nextCodes limit low count room (record { id = id; kind = kind; coords = now (coords .entry) })) r ⌝ }
+{
+    let code = verdict_code(kind, limit, coords);
+    if code != 0 {
+        return code;
+    }
+    follow_code(low, count, room, id)
+}
+
 // The code of an append behind the block, and the block's count.
 fn append_code(bytes: &[u8], room: usize, id: u32, kind: u8, limit: u8, coords: &[i32]) -> Checked
     ensures { λ r. ⌜ Allows (roomCodes (now (bytes .entry)) room id kind limit (now (coords .entry))) (now (bytes .entry)) r ⌝ }
@@ -141,19 +159,12 @@ fn append_code(bytes: &[u8], room: usize, id: u32, kind: u8, limit: u8, coords: 
     if c.code != 0 {
         return c;
     }
-    let code = verdict_code(kind, limit, coords);
+    let count = c.count;
+    let low = lowest_id(bytes, count);
+    let code = next_code(low, count, room, id, kind, limit, coords);
     if code != 0 {
         return Checked {
             code,
-            number: 0,
-            count: 0,
-        };
-    }
-    let count = c.count;
-    let other = new_code(bytes, count, room, id);
-    if other != 0 {
-        return Checked {
-            code: other,
             number: 0,
             count: 0,
         };

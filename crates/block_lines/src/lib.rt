@@ -5,6 +5,7 @@ use block::check_block;
 use block::fetch_record;
 use pieces::buffer;
 use pieces::coordinates;
+use pieces::last_word;
 use pieces::naturals;
 use pieces::unknown;
 use reader::begin_at;
@@ -17,16 +18,6 @@ use text::read::number;
 use text::read::up_to;
 use text::read::word_end;
 use text::write;
-
-// The bytes of the last word of a line, in hex. Answers how many; one more than there is room for where they are too many or not all
-// hex, or more words follow.
-fn last_word(line: &[u8], at: usize, bytes: &mut [u8]) -> usize {
-    let end = word_end(line, at);
-    if next(line, end) < line.len() {
-        return bytes.len() + 1;
-    }
-    hex(line, at, end, bytes)
-}
 
 // Calls `check_block`, and writes `code record count`.
 fn check_answer(bytes: &[u8], out: &mut [u8]) -> usize {

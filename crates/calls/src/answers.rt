@@ -22,5 +22,8 @@ pub fn answer(line: &[u8], out: &mut [u8]) -> usize {
     if is_word(line, 0, end, b"append") {
         return append_lines::append_line(line, at, out);
     }
+    if is_word(line, 0, end, b"mesh") {
+        return mesh_lines::mesh_line(line, at, out);
+    }
     block_lines::block_line(line, end, out)
 }

@@ -1,10 +1,23 @@
 // What several answers are made of.
 use points::coord;
+use text::read::hex;
+use text::read::next;
+use text::read::word_end;
 use text::write;
 
 // The answer to a line that is no call.
 pub fn unknown(out: &mut [u8]) -> usize {
     write::word(out, 0, b"?\n")
+}
+
+// The bytes of the last word of a line, in hex. Answers how many; one more than there is room for where they are too many or not all
+// hex, or more words follow.
+pub fn last_word(line: &[u8], at: usize, bytes: &mut [u8]) -> usize {
+    let end = word_end(line, at);
+    if next(line, end) < line.len() {
+        return bytes.len() + 1;
+    }
+    hex(line, at, end, bytes)
 }
 
 // Numbers, each with a space before it.

@@ -1,8 +1,8 @@
--- `append::append_code` meets its contract: the block's codes, then the element's, then 10, 11 and 5.
+-- `append::append_code` meets its contract: the block's codes, then those of the element behind it.
 use mathlib.Core.Logic.{inl, inr}
 use mathlib.Core.Path.{_≡_, ap}
 use native.Mathlib.Omega.{arith}
-use Rattle.element.specs.Refusals.{Accepted, verdictCodes}
+use Rattle.element.specs.Refusals.{Coded}
 use Rattle.element.proofs.Refusals.{coded-some, coded-none}
 use Rattle.block.specs.declared.Checked.{Checked}
 use Rattle.block.specs.Block.{countOf}
@@ -10,7 +10,7 @@ use Rattle.block.specs.Calls.{Counted}
 use Rattle.block.proofs.Header.{header-size}
 use Rattle.block.proofs.Walk.{accepted-header}
 use Rattle.block.proofs.Answers.{checks-refused, checks-counted}
-use Rattle.append.proofs.Orders.{block-refused, element-refused, new-refused, room-accepted}
+use Rattle.append.proofs.Orders.{given, block-refused, given-refused, given-accepted}
 use borrow.Author.Needs.{needs}
 use Rattle.append.proofs.append_code.Statement.{statement}
 use Rattle.append.proofs.append_code.Tie as tie
@@ -22,9 +22,12 @@ counted c = let k = c .before .before in checks-counted (k .before .before .args
 count : (c : tie.Else1) → let k = c .before .before in k .check-block .result .count ≡ countOf (k .before .before .args .bytes .now)
 count c = ap (λ (r : Checked). r .count) (counted c .answer)
 
--- the element, once its code is none
-sound : (c : tie.Else2) → let a = c .before .before .before .before .before .before .args in Accepted (verdictCodes (a .kind) (a .limit) (a .coords .now))
-sound c = coded-none (c .before .verdict-code .ensures) tt (c .if2 .left)
+-- the code of the element, by the block
+coded : (c : tie.After-next-code) → let a = c .before .before .before .before .before .before .args in
+    Coded (given (a .bytes .now) (a .room) (a .id) (a .kind) (a .limit) (a .coords .now)) (c .next-code .result)
+coded c =
+    let w = c .before in
+    rw (count (w .before)) at (rw (w .lowest-id .ensures) at (c .next-code .ensures))
 
 check-block-requires : tie.Need-check-block-requires
 check-block-requires c κs = search needs
@@ -40,46 +43,33 @@ returns c =
       some = c .if1 .taken;
     })
 
-verdict-code-requires : tie.Need-verdict-code-requires
-verdict-code-requires c κs = search needs
+lowest-id-requires : tie.Need-lowest-id-requires
+lowest-id-requires c κs =
+    let l = c .before .before .before .before .args .bytes .now in
+    omega (arith, count c, header-size l (accepted-header l (counted c .accepted)))
+
+next-code-requires : tie.Need-next-code-requires
+next-code-requires c κs = search needs
 
 returns-2 : tie.Need-returns-2
 returns-2 c =
-    let v = c .before in
-    let a = v .before .before .before .before .before .args in
+    let w = c .before in
+    let e = w .before .before in
+    let a = e .before .before .before .before .args in
     inl (record {
-      refused = element-refused (a .bytes .now) (a .room) (a .id) (a .kind) (a .limit) (a .coords .now) (v .verdict-code .result)
-          (counted (v .before) .accepted) (coded-some (v .verdict-code .ensures) (c .if2 .taken));
+      refused = given-refused (a .bytes .now) (a .room) (a .id) (a .kind) (a .limit) (a .coords .now) (w .next-code .result)
+          (counted e .accepted) (coded-some (coded w) (c .if2 .taken));
       some = c .if2 .taken;
     })
-
-new-code-requires : tie.Need-new-code-requires
-new-code-requires c κs =
-    let e = c .before .before in
-    let l = e .before .before .before .before .args .bytes .now in
-    (omega (arith, count e, header-size l (accepted-header l (counted e .accepted))), count e)
 
 returns-3 : tie.Need-returns-3
 returns-3 c =
     let w = c .before in
-    let e2 = w .before in
-    let e = e2 .before .before in
-    let a = e .before .before .before .before .args in
-    inl (record {
-      refused = new-refused (a .bytes .now) (a .room) (a .id) (a .kind) (a .limit) (a .coords .now) (w .new-code .result)
-          (counted e .accepted) (sound e2) (coded-some (w .new-code .ensures) (c .if3 .taken));
-      some = c .if3 .taken;
-    })
-
-returns-4 : tie.Need-returns-4
-returns-4 c =
-    let w = c .before in
-    let e2 = w .before in
-    let e = e2 .before .before in
+    let e = w .before .before in
     let a = e .before .before .before .before .args in
     inr (record {
-      accepted = room-accepted (a .bytes .now) (a .room) (a .id) (a .kind) (a .limit) (a .coords .now)
-          (counted e .accepted) (sound e2) (coded-none (w .new-code .ensures) tt (c .if3 .left));
+      accepted = given-accepted (a .bytes .now) (a .room) (a .id) (a .kind) (a .limit) (a .coords .now)
+          (counted e .accepted) (coded-none (coded w) tt (c .if2 .left));
       answer = counted e .answer;
     })
 
@@ -89,8 +79,7 @@ append-code-spec =
     (tie.spec
     check-block-requires
     returns
-    verdict-code-requires
+    lowest-id-requires
+    next-code-requires
     returns-2
-    new-code-requires
-    returns-3
-    returns-4)
+    returns-3)

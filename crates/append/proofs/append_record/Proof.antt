@@ -2,7 +2,7 @@
 use mathlib.Core.Logic.{inl, inr}
 use mathlib.Core.Path.{_≡_, refl, sym, ap, ap₂, _∙_}
 use mathlib.Core.List.{List}
-use Prim.Native.Nat.{ℕ, suc, _+_, _-_, _*_, _≤_, _<_}
+use Prim.Native.Nat.{ℕ, suc, _+_, _-_, _≤_, _<_}
 use native.Mathlib.Nat as N
 use native.Mathlib.Numerals.{add-one}
 use native.Mathlib.Omega.{arith}
@@ -12,7 +12,6 @@ use lib.Seq.{length-take-le}
 use Rattle.endian.specs.Numbers.{over}
 use Rattle.endian.proofs.Writes.{length-over}
 use Rattle.record.specs.Record.{recordBytes}
-use Rattle.record.proofs.Known.{not-not, known-small}
 use Rattle.record.proofs.Codec.{numbers-length}
 use Rattle.block.specs.declared.Checked.{Checked}
 use Rattle.block.specs.Block.{countOf}
@@ -20,6 +19,7 @@ use Rattle.append.specs.Append.{roomCodes, padded, newRecord}
 use Rattle.append.specs.Calls.{IsAllowed, withCount}
 use Rattle.append.proofs.Orders.{allows-refused, allows-allowed, used-refused, room-refused, append-accepted, RoomSound, room-sound}
 use Rattle.append.proofs.Padded.{padded-length}
+use Rattle.append.proofs.Turns.{short-given}
 use borrow.Author.Needs.{needs}
 use Rattle.append.proofs.append_record.Statement.{statement}
 use Rattle.append.proofs.append_record.Tie as tie
@@ -51,8 +51,7 @@ few c = rw (count c) (N.lt-of-not-le (sound c .other .1 .0))
 short : (c : tie.Else2) → length (c .before .before .before .before .before .before .args .coords .now) ≤ 18
 short c =
     let a = c .before .before .before .before .before .before .args in
-    let v = sound c .element in
-    omega (arith, not-not (length (a .coords .now)) (2 * a .kind) (v .1 .1 .0), known-small (a .kind) (v .0))
+    short-given (a .kind) (a .limit) (a .coords .now) (sound c .element)
 
 room : (c : tie.Else2) → let a = c .before .before .before .before .before .before .args in a .used + 80 ≤ length (a .buffer .now)
 room c =

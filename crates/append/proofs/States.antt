@@ -1,0 +1,110 @@
+-- The numbers that are carried from one append to the next: the least id that may follow, the count, and the room behind the block.
+--   State b used rs low count room == the first `used` bytes of b are the block of rs, and the numbers are theirs
+--   state-of       : any block has its numbers
+--   refused-at, accepted-at : the order by the carried numbers is that of `append_record`
+--   added b used level g == the buffer after an accepted append
+--   state-next     : after an accepted append the numbers are the next
+-- Assumes nothing.
+use mathlib.Core.Path.{_≡_, refl, sym, ap, _∙_}
+use mathlib.Core.List.{List, [], _∷_, _++_}
+use Prim.Native.Nat.{ℕ, suc, _+_, _-_, _^_, _≤_, _<_}
+use native.Mathlib.Nat as N
+use native.Mathlib.Omega.{arith}
+use lib.ListN.{length, take, drop, length-append, length-drop, take-append-drop}
+use lib.Seq.{length-take-le}
+use Rattle.element.specs.Refusals.{Refused, Accepted}
+use Rattle.endian.specs.Numbers.{over}
+use Rattle.record.specs.declared.Record.{Record}
+use Rattle.record.specs.Record.{recordBytes}
+use Rattle.block.specs.Block.{Holds, countOf}
+use Rattle.block.specs.Faults.{lowest}
+use Rattle.block.proofs.Blocks.{block-length, block-count, held-record, holds-accepted}
+use Rattle.append.specs.declared.Appended.{Appended}
+use Rattle.append.specs.Append.{appendCodes}
+use Rattle.append.specs.Calls.{withCount, IsAppended}
+use Rattle.append.specs.Series.{Given, given, nextCodes}
+use Rattle.append.proofs.Orders.{given-refused, given-accepted, room-refused, append-accepted, append-sound}
+use Rattle.append.proofs.Runs.{last-record, more-length, appended-holds, appended-rest}
+
+pub record State (b : List ℕ) (used : ℕ) (rs : List Record) (low count room : ℕ) : Type 0 where
+  pub within : used ≤ length b
+  pub held : Holds (take used b) rs
+  pub low-is : low ≡ lowest (take used b) (countOf (take used b))
+  pub count-is : count ≡ countOf (take used b)
+  pub room-is : room ≡ length b - used
+
+pub state-of : {b : List ℕ} {used : ℕ} {rs : List Record} → used ≤ length b → Holds (take used b) rs
+    → State b used rs (lowest (take used b) (countOf (take used b))) (countOf (take used b)) (length b - used)
+state-of h q = record { within = h; held = q; low-is = refl; count-is = refl; room-is = refl }
+
+-- ---- one append; the answer without a fault, and the buffer
+abbrev pub answered : ℕ → Appended
+answered m = record { code = 0; number = 0; used = m }
+
+abbrev pub added : List ℕ → ℕ → ℕ → Given → List ℕ
+added b used level g = withCount (over b used (recordBytes (given level g))) (suc (countOf (take used b)))
+
+module _ {b : List ℕ} {used : ℕ} {rs : List Record} {low count room : ℕ} (s : State b used rs low count room) (level : ℕ) (g : Given) where
+  pub refused-at : (c : ℕ) → Refused (nextCodes level low count room g) c
+      → Refused (appendCodes b used (g .id) (g .kind) level (g .coords)) (record { code = c; number = 0 })
+  refused-at c r =
+      room-refused b used (g .id) (g .kind) level (g .coords) (record { code = c; number = 0 }) (s .within)
+      (given-refused (take used b) (length b - used) (g .id) (g .kind) level (g .coords) c (holds-accepted (s .held))
+      (rw (s .room-is) at (rw (s .count-is) at (rw (s .low-is) at r))))
+
+  pub accepted-at : Accepted (nextCodes level low count room g) → Accepted (appendCodes b used (g .id) (g .kind) level (g .coords))
+  accepted-at a =
+      append-accepted b used (g .id) (g .kind) level (g .coords) (s .within)
+      (given-accepted (take used b) (length b - used) (g .id) (g .kind) level (g .coords) (holds-accepted (s .held))
+      (rw (s .room-is) at (rw (s .count-is) at (rw (s .low-is) at a))))
+
+  pub appended : Accepted (nextCodes level low count room g) → IsAppended b used (g .id) (g .kind) level (g .coords) (answered (used + 80)) (added b used level g)
+  appended a = record { accepted = accepted-at a; answer = refl; written = refl }
+
+  module _ (fits : g .id < 256 ^ 4) (a : Accepted (nextCodes level low count room g)) where
+    abbrev new : List ℕ
+    new = added b used level g
+
+    abbrev all : List Record
+    all = rs ++ (given level g ∷ [])
+
+    holds : Holds (take (used + 80) new) all
+    holds = appended-holds (s .held) fits (appended a)
+
+    enough : used + 80 ≤ length b
+    enough =
+        let t = append-sound b used (g .id) (g .kind) level (g .coords) (accepted-at a) in
+        omega (arith, N.lt-of-not-le (t .other .1 .1 .0), s .within)
+
+    same-length : length new ≡ length b
+    same-length =
+        let m = used + 80 in
+        sym (ap length (take-append-drop m new)) ∙ length-append (take m new) (drop m new)
+        ∙ omega (
+          arith,
+          block-length holds,
+          block-length (s .held),
+          length-take-le used b (s .within),
+          more-length rs (given level g),
+          ap length (appended-rest (s .held) fits (appended a)),
+          length-drop m b,
+          enough,
+        )
+
+    counted : countOf (take (used + 80) new) ≡ suc (length rs)
+    counted = block-count holds ∙ more-length rs (given level g)
+
+    lowest-next : lowest (take (used + 80) new) (suc (length rs)) ≡ suc (g .id)
+    lowest-next =
+        ap (λ (r : Record). suc (r .id))
+        (held-record holds (length rs) (omega (arith, more-length rs (given level g))) ∙ last-record rs (given level g))
+
+    pub state-next : State (added b used level g) (used + 80) (rs ++ (given level g ∷ [])) (suc (g .id)) (suc count) (room - 80)
+    state-next =
+        record {
+          within = rw same-length enough;
+          held = holds;
+          low-is = sym (ap (lowest (take (used + 80) new)) counted ∙ lowest-next);
+          count-is = ap suc (s .count-is ∙ block-count (s .held)) ∙ sym counted;
+          room-is = omega (arith, s .room-is, same-length);
+        }

@@ -1,0 +1,11 @@
+pub mod Steps
+pub mod Reading
+pub mod Answers
+pub mod Marks
+pub mod Told
+pub mod Sections
+pub mod Unique
+pub mod RowTests
+pub mod Formed
+pub mod Passes
+pub mod Said

@@ -1,0 +1,2 @@
+-- The node rows of a text: whole coordinates, and a node by its number.
+pub mod Nodes

@@ -1,0 +1,5 @@
+pub mod Bits
+pub mod Flags
+pub mod Windows
+pub mod Passes
+pub mod Ties
