@@ -7,6 +7,7 @@
 --   series-passes  : or the bytes used, with the buffer filled at once
 --   filled-none    : which is the buffer itself where nothing is appended
 --   series-reads   : after a run without a refusal the block of the old records and the new is read back
+--   series-behind  : and all bytes behind it stay
 --   series-holds, series-rest : it holds the block of the old records and the new, and all bytes behind stay
 -- Assumes nothing.
 use mathlib.Core.Path.{_≡_, refl, sym, ap, _∙_, subst}
@@ -14,7 +15,9 @@ use mathlib.Core.List.{List, [], _∷_, _++_, append-nil, append-assoc}
 use mathlib.Core.Logic.{inl, inr}
 use Prim.Native.Nat.{ℕ, _+_, _-_, _*_, _≤_}
 use native.Mathlib.Nat as N
+use native.Mathlib.Omega.{arith}
 use lib.ListN.{length, take, drop}
+use lib.Seq.{drop-drop}
 use Rattle.element.specs.Refusals.{Refused, Accepted}
 use Rattle.element.proofs.Refusals.{refused-unique, refused-accepted, refused-some}
 use Rattle.endian.specs.Numbers.{Bytes}
@@ -28,7 +31,7 @@ use Rattle.append.specs.Append.{bufferCodes}
 use Rattle.append.specs.Series.{Given, Series, ended, stopped, onward, given, records, filled, IdsFit, nextCodes, Stops, here, later, Passes, first}
 use Rattle.append.proofs.Orders.{buffer-refused, append-some}
 use Rattle.append.proofs.Outcomes.{appends-unique, appended-is}
-use Rattle.append.proofs.Runs.{appended-holds}
+use Rattle.append.proofs.Runs.{appended-holds, appended-rest}
 use Rattle.append.proofs.States.{State, state-of, refused-at, appended, state-next}
 use Rattle.append.proofs.Filled.{Ran, ran-none, ran, ran-filled, ran-exact}
 
@@ -150,3 +153,24 @@ series-reads {level} {b} {used} {rs = rs} (onward {g = g} {gs = gs} {r = r} {a =
     let k : Holds (take (used + 80) a) (rs ++ (given level g ∷ [])) = appended-holds h (f .0) q in
     let m = subst (λ n. Holds (take n a) (rs ++ (given level g ∷ []))) (ap (λ x. x .used) (sym (q .answer))) k in
     subst (Holds _) (append-assoc rs (given level g ∷ []) (records level gs)) (series-reads s e (f .1) m)
+
+-- ---- and all bytes behind it stay
+drop-further : (m n : ℕ) (a b : List ℕ) → m ≤ n → drop m a ≡ drop m b → drop n a ≡ drop n b
+drop-further m n a b h e =
+    let k : m + (n - m) ≡ n = omega arith in
+    ap (λ i. drop i a) (sym k) ∙ sym (drop-drop (n - m) m a) ∙ ap (drop (n - m)) e ∙ drop-drop (n - m) m b ∙ ap (λ i. drop i b) k
+
+pub series-behind : {level : ℕ} {b : List ℕ} {used : ℕ} {gs : List Given} {r : Appended} {a : List ℕ} {rs : List Record}
+    → Series level b used gs r a
+    → r .code ≡ 0
+    → IdsFit gs
+    → Holds (take used b) rs
+    → (used ≤ r .used) × (drop (r .used) a ≡ drop (r .used) b)
+series-behind ended e f h = (omega arith, refl)
+series-behind (stopped p n) e f h = absurd (n e)
+series-behind {level} {b} {used} {rs = rs} (onward {g = g} {gs = gs} {r = r} {s = s} {a = a} p z o) e f h =
+    let q = appended-is b used (g .id) (g .kind) level (g .coords) r a p z in
+    let u : r .used ≡ used + 80 = ap (λ x. x .used) (q .answer) in
+    let k : Holds (take (used + 80) a) (rs ++ (given level g ∷ [])) = appended-holds h (f .0) q in
+    let i = series-behind o e (f .1) (subst (λ n. Holds (take n a) (rs ++ (given level g ∷ []))) (sym u) k) in
+    (omega (arith, u, i .0), i .1 ∙ drop-further (used + 80) (s .used) a b (omega (arith, u, i .0)) (appended-rest h (f .0) q))

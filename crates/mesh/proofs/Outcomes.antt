@@ -3,20 +3,22 @@
 --   append-mesh-unique : one answer and one content of the buffer
 --   mesh-counts    : what is appended and what is passed over are all elements of the text
 --   mesh-keeps     : a refusal changes no byte
+--   mesh-behind    : and all bytes behind it stay
+--   mesh-none      : where nothing is taken nothing changes
 --   mesh-reads     : after a success the first `used` bytes are the block of the old records and of those taken
 -- Assumes nothing.
 use mathlib.Core.Path.{_≡_, refl, sym, ap, ap₂, _∙_, subst}
-use mathlib.Core.List.{List, _++_}
+use mathlib.Core.List.{List, [], _++_}
 use mathlib.Core.Logic.{inl, inr}
 use Prim.Native.Nat.{ℕ, _+_, _*_}
-use lib.ListN.{length, take}
+use lib.ListN.{length, take, drop}
 use Rattle.element.specs.Refusals.{Accepted}
 use Rattle.element.proofs.Refusals.{refused-unique, refused-accepted}
 use Rattle.record.specs.declared.Record.{Record}
 use Rattle.block.specs.Block.{Holds}
 use Rattle.append.specs.declared.Appended.{Appended}
-use Rattle.append.specs.Series.{Given, Series, records}
-use Rattle.append.proofs.Series.{series-unique, series-reads}
+use Rattle.append.specs.Series.{Given, Series, ended, records}
+use Rattle.append.proofs.Series.{series-unique, series-reads, series-behind}
 use Rattle.mesh_form.proofs.Unique.{mesh-unique}
 use Rattle.mesh_elements.specs.Takings.{Takings}
 use Rattle.mesh_elements.proofs.Rows.{numbers-small}
@@ -83,3 +85,9 @@ module _ (t : List ℕ) (level : ℕ) (b : List ℕ) (used : ℕ) where
 
     pub mesh-reads : {rs : List Record} → Holds (take used b) rs → Holds (take (r .used) a) (rs ++ records level (n .given))
     mesh-reads h = series-reads (n .done) refl (takings-fit (n .said .takings) (numbers-small (n .said .mesh .form))) h
+
+    pub mesh-behind : {rs : List Record} → Holds (take used b) rs → drop (r .used) a ≡ drop (r .used) b
+    mesh-behind h = series-behind (n .done) refl (takings-fit (n .said .takings) (numbers-small (n .said .mesh .form))) h .1
+
+    pub mesh-none : n .given ≡ [] → a ≡ b
+    mesh-none e = runs-unique e (n .done) ended .1
