@@ -4,17 +4,26 @@
 --   example-taken, example-passed : what is taken of it, and what is passed over
 --   example-numbers, example-wanted : the numbers of its nodes, and those that the triangle has
 --   example-accepted, example-said : it has no fault, and says just that
+--   example-answer : so every call over a good block with room appends the triangle
 -- Assumes nothing.
-use mathlib.Core.Path.{_≡_, refl, sym, ap, _∙_, subst}
+use mathlib.Core.Path.{_≡_, refl, sym, ap, ap₂, _∙_, subst}
 use mathlib.Core.Bool.{Bool, true, false, not, _&&_, _||_, true≢false, or-true}
 use mathlib.Core.List.{List, [], _∷_, List·Memᴰ, List·Memᴰ·head, List·Memᴰ·tail}
-use Prim.Native.Nat.{ℕ}
-use borrow.Author.Tests.{eq-eqb}
-use lib.Dec.{eqb}
-use lib.IntN.{pos}
-use Rattle.element.specs.Refusals.{Accepted}
-use Rattle.element.proofs.Refusals.{coded-none}
-use Rattle.append.specs.Series.{Given}
+use mathlib.Core.Logic.{inl, inr}
+use Prim.Native.Nat.{ℕ, zero, suc, _+_, _-_, _*_, _≤_, _<_}
+use native.Mathlib.Omega.{arith}
+use borrow.Author.Tests.{eq-eqb, leb-true}
+use lib.Dec.{eqb, leb}
+use lib.IntN.{ℤ, pos, natAbs}
+use lib.ListN.{length, getD, take}
+use Rattle.element.specs.Refusals.{Accepted, Beyond}
+use Rattle.element.proofs.Refusals.{coded-none, refused-accepted}
+use Rattle.endian.specs.Numbers.{Bytes}
+use Rattle.block.specs.Block.{countOf}
+use Rattle.block.specs.Faults.{lowest}
+use Rattle.append.specs.Append.{bufferCodes}
+use Rattle.append.specs.Series.{Given, Series, Passes, empty, first}
+use Rattle.append.proofs.Series.{series-unique, series-passes}
 use Rattle.mesh_text.specs.Rows.{lines, words, rows, inClass}
 use Rattle.mesh_text.specs.Tests.{digitsB, unsigned, isMinus, tagB, exponentB, mantissaB, numberB, pointB, wholeB, numberOf, sizeOf, valueOf, zeroB}
 use Rattle.mesh_text.proofs.Grammar.{and-both}
@@ -27,7 +36,10 @@ use Rattle.mesh_nodes.specs.Nodes.{flatB, flatsB, rowOf, nodesIn}
 use Rattle.mesh_elements.specs.Orders.{order}
 use Rattle.mesh_elements.specs.Rows.{nameOf, coordOf, givensOf, passedOf}
 use Rattle.mesh.specs.Tallies.{takenIn, passedIn}
-use Rattle.mesh.specs.Calls.{HasMesh, textCodes, Said}
+use Rattle.mesh.specs.declared.Meshed.{Meshed}
+use Rattle.mesh.specs.Calls.{HasMesh, textCodes, meshCodes, Said, AppendsMesh}
+use Rattle.mesh.proofs.Opened.{mesh-accepted}
+use Rattle.mesh.proofs.Outcomes.{said-unique}
 use Rattle.mesh.proofs.Readings.{has-mesh, text-good, said-of}
 
 -- $MeshFormat, 2.2 0 8, $EndMeshFormat; $Nodes, six nodes, the last with the z -0, $EndNodes; $Elements, two elements, $EndElements
@@ -124,3 +136,42 @@ example-accepted = coded-none (text-good example example-mesh example-flat examp
 pub example-said : Said example (triangle ∷ []) 1
 example-said =
     subst (λ gs. Said example gs 1) example-taken (subst (Said example (takenIn example)) example-passed (said-of example example-accepted))
+
+-- ---- so no call may refuse it, over a good block with room, where the limit is one of triangles
+withinB : ℕ → List ℤ → Bool
+withinB n [] = true
+withinB n (z ∷ zs) = leb (natAbs z) n && withinB n zs
+
+within : (n : ℕ) (zs : List ℤ) → withinB n zs ≡ true → ¬ Beyond n zs
+unfolding withinB
+within n [] e b = absurd (omega (arith, b .1))
+within n (z ∷ zs) e b =
+    let t = and-both (leb (natAbs z) n) (withinB n zs) e in
+    at-place (leb-true (natAbs z) n (t .0)) (λ w. within n zs (t .1) w) (b .0) (b .1) (b .2)
+  where
+    at-place : natAbs z ≤ n → (Beyond n zs → ⊥) → (i : ℕ) → i < suc (length zs) → n < natAbs (getD (z ∷ zs) i (pos 0)) → ⊥
+    at-place t ih zero h k = absurd (omega arith)
+    at-place t ih (suc i) h k = ih (i, omega arith, k)
+
+module _ (level : ℕ) (b : List ℕ) (used : ℕ) (y : Bytes b) (a : Accepted (bufferCodes b used)) (l : level ≤ 10)
+    (low : lowest (take used b) (countOf (take used b)) ≤ 2) (few : countOf (take used b) < 800) (room : used + 80 ≤ length b) where
+  triangle-passes : Passes level (lowest (take used b) (countOf (take used b))) (countOf (take used b)) (length b - used) (triangle ∷ [])
+  unfolding withinB
+  triangle-passes =
+      let level-ok : ¬ (10 < level) = λ k. absurd (omega arith) in
+      let id-ok : ¬ (2 < lowest (take used b) (countOf (take used b))) = λ k. absurd (omega arith) in
+      let count-ok : ¬ (800 ≤ countOf (take used b)) = λ k. absurd (omega arith) in
+      let room-ok : ¬ (length b - used < 80) = λ k. absurd (omega arith) in
+      first ((λ k. k .0 refl), (level-ok, ((λ k. k refl), (within 65536 (triangle .coords) refl, (id-ok, (count-ok, (room-ok, tt))))))) empty
+
+  pub example-answer : (r : Meshed) (c : List ℕ) → AppendsMesh example level b used r c
+      → r ≡ record { code = 0; number = 0; used = used + 80; appended = 1; passed = 1 }
+  example-answer r c (inl n) =
+      absurd (refused-accepted (meshCodes example b used) (record { code = r .code; number = r .number }) (n .refused) (mesh-accepted example b used example-accepted a))
+  example-answer r c (inr (inl n)) =
+      let e = said-unique (n .said) example-said .0 in
+      let q = series-passes b used y a (omega arith, tt) triangle-passes in
+      absurd (n .some (ap (λ x. x .code) (series-unique (subst (λ gs. Series level b used gs (record { code = r .code; number = 0; used = 0 }) (n .left)) e (n .stopped)) q .0)))
+  example-answer r c (inr (inr n)) =
+      let e = said-unique (n .said) example-said in
+      n .answer ∙ ap₂ (λ (gs : List Given) (p : ℕ). record { code = 0; number = 0; used = used + 80 * length gs; appended = length gs; passed = p }) (e .0) (e .1)

@@ -1,4 +1,4 @@
--- What the call `append_mesh` answers, and what it leaves in the buffer lent to it (02, Ask 1; GMSH.md, section 2).
+-- What the call `append_mesh` answers, and what it leaves in the buffer lent to it (02, Ask 1; docs/GMSH.md, G20 to G23).
 --   HasMesh t        == the text says some nodes and elements: it is of the form, and no node number stands twice
 --   Unfit t, Lacking t == codes 14 and 15 of a text of the form, also where a number stands twice
 --   textCodes t      == the order of the text: "13 over the whole text first, then 14, then 15"

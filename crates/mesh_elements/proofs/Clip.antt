@@ -1,4 +1,4 @@
--- A coordinate beyond i32 is read as the nearest of i32: no code notices, and what is accepted is what was written (GMSH.md, G22).
+-- A coordinate beyond i32 is read as the nearest of i32: no code notices, and what is accepted is what was written (docs/GMSH.md, G22).
 --   clip-size, clip-same : a coordinate that is clipped; one that is not
 --   Clipped m f g  == the numbers f are g, clipped at m
 --   clipped-beyond, beyond-clipped : one of them is beyond a limit below m where one of the others is

@@ -1,4 +1,4 @@
--- Code 14: what is tested of the node rows is what it says of the nodes (GMSH.md, G17).
+-- Code 14: what is tested of the node rows is what it says of the nodes (docs/GMSH.md, G17).
 --   flat-true, flat-of : of one row
 --   flats-true, flats-all : where the test is true, each node is flat, and none is not
 --   flats-false, flats-of : where it is false, some node is not flat; where there is none, it is true

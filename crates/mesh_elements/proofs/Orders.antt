@@ -1,4 +1,4 @@
--- Each node of ours stands where Gmsh's picture has it (GMSH.md, G24).
+-- Each node of ours stands where Gmsh's picture has it (docs/GMSH.md, G24).
 --   by-type        : the three types that are ours
 --   order-six, order-nine, order-eight : their orders
 --   order-length, order-within, order-small : as many as the kind has nodes, each one of them; and one of nine

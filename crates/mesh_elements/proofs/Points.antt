@@ -1,4 +1,4 @@
--- The coordinates that are read for an element of ours are those of its nodes, in our order (GMSH.md, G24).
+-- The coordinates that are read for an element of ours are those of its nodes, in our order (docs/GMSH.md, G24).
 --   mem-stable     : a number that is not missing in a list is in it
 --   AtRow ns n r   == the node of number n stands where the row r says
 --   at-row         : the node of a number stands where its row says

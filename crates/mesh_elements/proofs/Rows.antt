@@ -1,4 +1,4 @@
--- The rows of a text of the form are its nodes and its elements, one by one (GMSH.md, G12 to G15).
+-- The rows of a text of the form are its nodes and its elements, one by one (docs/GMSH.md, G12 to G15).
 --   form-nodes, form-elements : each row says its node, or its element
 --   nodes-are, numbers-are, elements-are : so what is read from the rows is what the text says
 --   node-rows, element-rows : and each row is one of what is read from it

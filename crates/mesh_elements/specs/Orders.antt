@@ -1,4 +1,4 @@
--- The order of an element's nodes, Gmsh's and ours (GMSH.md, section 3, G24).
+-- The order of an element's nodes, Gmsh's and ours (docs/GMSH.md, G24).
 --   Place            == a point of the reference element, in halves of its sides: along ξ or u, and along η or v
 --   gmshPlaces k     == where Gmsh's nodes of an element of the type k stand, in Gmsh's order
 --   ourPlaces n      == where the nodes of an element of the kind n stand, in ours

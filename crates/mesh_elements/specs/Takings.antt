@@ -1,4 +1,4 @@
--- What is taken of a mesh: its elements of the types 9, 10 and 16, each with its coordinates (02, Ask 1; GMSH.md, G17, G22 to G24).
+-- What is taken of a mesh: its elements of the types 9, 10 and 16, each with its coordinates (02, Ask 1; docs/GMSH.md, G17, G22 to G24).
 --   Ours e           == e is of one of these types
 --   IsWhole w, Flat n == w is a whole coordinate; x and y of the node are, and z is 0
 --   NotFlat ns       == code 14: some node is not flat; code 15 is `Unlisted` of mesh_numbers

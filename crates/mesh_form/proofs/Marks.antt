@@ -1,4 +1,4 @@
--- The tests of marks, ends and format rows say what is stated of them (GMSH.md, G4, G8).
+-- The tests of marks, ends and format rows say what is stated of them (docs/GMSH.md, G4, G8).
 --   end-refl, end-true, mark-true : the rows $Endx and $x
 --   other-false, false-other : a name that is another
 --   version-of, format-of, format-true : the row of a format

@@ -1,4 +1,4 @@
--- The tests of rows of nodes and elements say what is stated of them (GMSH.md, G11 to G15).
+-- The tests of rows of nodes and elements say what is stated of them (docs/GMSH.md, G11 to G15).
 --   counts-true, counts-of   : a number above 0
 --   node-true, node-of       : a row of nodes
 --   element-true, element-of : a row of elements

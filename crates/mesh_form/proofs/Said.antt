@@ -1,4 +1,4 @@
--- What is read straight from the words of a good row is what the row says (GMSH.md, G12 to G15).
+-- What is read straight from the words of a good row is what the row says (docs/GMSH.md, G12 to G15).
 --   node-is, element-is : the node and the element of a row
 --   wanted-is, wanted-none : the node numbers of a row of ours; none of another's
 --   first-word, second-word, third-word : words by their places

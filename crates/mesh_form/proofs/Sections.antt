@@ -1,4 +1,4 @@
--- Rows are sections in one way (GMSH.md, G4, G5).
+-- Rows are sections in one way (docs/GMSH.md, G4, G5).
 --   parts-unique   : a list is parted at the first place of an element in one way
 --   sections-unique : rows have no two lists of sections
 -- Assumes nothing.

@@ -1,4 +1,4 @@
--- What the rows of a text say rule by rule (Told) is what its sections say (Form; GMSH.md, section 4).
+-- What the rows of a text say rule by rule (Told) is what its sections say (Form; docs/GMSH.md, G4 to G9).
 --   counted-no-end, format-no-end : no row of a body that is read is an end row: a count is digits, the others have more than one word
 --   told-of, of-told : the two laws, for rows before which a format has come or has not (s)
 --   form-told, told-form : the one from the other

@@ -1,4 +1,4 @@
--- A text has one reading (GMSH.md, section 4: `mesh-unique`).
+-- A text has one reading (docs/GMSH.md, G4 to G15).
 --   node-unique, element-unique : a row says one thing
 --   Readings is ns es == the items are rows of the nodes ns and the elements es
 --   sections-walk  : the walk over sections ends well, and its items are rows of their nodes and elements

@@ -1,4 +1,4 @@
--- What a Gmsh MSH 2.2 text says: its nodes and its elements (GMSH.md, sections 1 and 4). Rows, words and numbers are those of mesh_text.
+-- What a Gmsh MSH 2.2 text says: its nodes and its elements (docs/GMSH.md, G4 to G18). Rows, words and numbers are those of mesh_text.
 --   Row            == a list of words
 --   mark x, ended x == the row of the one word $x, and of the one word $Endx
 --   format, nodes, elements == the names of the three sections that are read

@@ -1,4 +1,4 @@
--- What good rows say, straight from their words (GMSH.md, G12 to G15). That they are what Mesh says is proved in proofs/Values.
+-- What good rows say, straight from their words (docs/GMSH.md, G12 to G15). That they are what Mesh says is proved in proofs/Said.
 --   word r k       == the word k of a row; past its end the empty word
 --   idOf r, typeOf r, tagsOf r == the first three numbers of an element's row
 --   namesOf r      == its node numbers, behind three words and the tags

@@ -1,4 +1,4 @@
--- The node rows of a text (GMSH.md, G17 to G19): whether all coordinates are whole, and the row of a number.
+-- The node rows of a text (docs/GMSH.md, G17 to G19): whether all coordinates are whole, and the row of a number.
 --   flatB r        == x and y of the row are whole, and z is 0
 --   flatsB is      == those of each node row are
 --   rowOf n rs     == the first of the rows with the number n; past them the row without words

@@ -1,4 +1,4 @@
--- In a text of the form the numbers are those of its nodes, and those wanted are those of its elements (GMSH.md, G18 and G19).
+-- In a text of the form the numbers are those of its nodes, and those wanted are those of its elements (docs/GMSH.md, G18 and G19).
 --   numbers-are, wanted-are : the numbers of a text of the form
 --   twice-is       : `twice` answers whether a number stands twice among its nodes
 --   unlisted-is    : `unlisted` answers whether an element of ours wants a number that no node has

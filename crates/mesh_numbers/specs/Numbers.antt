@@ -1,4 +1,4 @@
--- The numbers of a text that nodes have, and those that elements want (GMSH.md, G18 and G19).
+-- The numbers of a text that nodes have, and those that elements want (docs/GMSH.md, G18 and G19).
 --   gather g is    == what g gives of each of the items, one behind the other
 --   nodeNumber i   == the number of a row of nodes
 --   wantedBy i     == the node numbers of a row of an element that is ours: of type 9, 10 or 16

@@ -1,4 +1,4 @@
--- The tests of words say what is stated of them (GMSH.md, G10, G14, G16, G17).
+-- The tests of words say what is stated of them (docs/GMSH.md, G10, G14, G16, G17).
 --   and-both, and-of : two tests that are true
 --   same-refl, same-true : the test of two words
 --   run-app, run-is  : a run in front of another byte; a run that is the whole list

@@ -1,4 +1,4 @@
--- Reading a text by its bytes: a blank, a line feed, a word (GMSH.md, G1 to G3).
+-- Reading a text by its bytes: a blank, a line feed, a word (docs/GMSH.md, G1 to G3).
 --   all-map, heads-map, run-all, past-heads : of a run each byte is of the class, and the byte behind it is not
 --   parts-run      : bytes that part nothing stand before the first part
 --   line-blank, more-blank, line-end, more-end : a blank before a line changes nothing; at a line feed the line is over

@@ -1,4 +1,4 @@
--- Words and rows by example: what the grammar lets in, and what it shuts out (GMSH.md, G1 to G3, G10, G14, G16, G17).
+-- Words and rows by example: what the grammar lets in, and what it shuts out (docs/GMSH.md, G1 to G3, G10, G14, G16, G17).
 -- Each by computing the test, and by the law of Grammar that says what the test says.
 --   Fraction w     == w is a decimal number, and no whole one
 --   one-e-three, large-e, zero-e-zero, no-zeros, no-digits, one-half, last-digit : decimal numbers that are not whole

@@ -1,4 +1,4 @@
--- Lines, words and rows of a text (GMSH.md, G1 to G3).
+-- Lines, words and rows of a text (docs/GMSH.md, G1 to G3).
 --   isBlank b, isEnd b == a space, a tab or a carriage return; a line feed
 --   parts p t      == the parts of t between the bytes of which p is true: one more than there are such bytes
 --   All P l, Heads P l == P of each of l; P of the first of l, if there is one

@@ -1,4 +1,4 @@
--- What the words of a Gmsh text stand for (GMSH.md, G10, G14, G16, G17), each as parts put together.
+-- What the words of a Gmsh text stand for (docs/GMSH.md, G10, G14, G16, G17), each as parts put together.
 --   Digits w       == w is one or more digits
 --   Number w n     == w is a whole number, of value n below 2^32
 --   Sign s         == s is a plus, a minus or nothing
