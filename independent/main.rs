@@ -1,18 +1,23 @@
-// An independent judge: it makes sets of elements, blocks and mesh texts from fixed seeds, and writes what the checker must answer to them.
-//   independent DIR    writes DIR/calls.txt, DIR/lists.txt and DIR/meshes.txt
-//   independent -      answers the lines `mesh ..` of standard input, a line each
-// A line of calls.txt and of meshes.txt is `a line for the program calls -> its answer`; one of lists.txt is `a block in hex -> what the
-// program verdicts prints, its lines joined by " / "`.
+// An independent judge: it makes sets of elements, blocks, mesh texts and texts of records from fixed seeds, and writes what the checker
+// must answer to them.
+//   independent DIR    writes DIR/calls.txt, DIR/lists.txt, DIR/meshes.txt and DIR/packs.txt
+//   independent -      answers the lines `mesh ..` and `text ..` of standard input, a line each
+// A line of calls.txt, meshes.txt and packs.txt is `a line for the program calls -> its answer`; one of lists.txt is `a block in hex ->
+// what the program verdicts prints, its lines joined by " / "`.
 
 mod block;
 mod element;
 mod mesh;
+mod pack;
+mod packs;
 mod sets;
 mod texts;
+mod words;
 
 use block::{block_bytes, check, hex, list, stored, Record};
 use element::{code, Element};
 use mesh::append_mesh;
+use pack::append_text;
 use sets::{elements, Random};
 use texts::Question;
 use std::fmt::Write as _;
@@ -154,6 +159,19 @@ fn mesh_answer(q: &Question) -> String {
     format!("{} {} {} {} {} {}", m.code, m.record, m.used, m.appended, m.passed, hex(&after))
 }
 
+// The call as a line for the program `calls`.
+fn text_question(q: &packs::Question) -> String {
+    format!("text {} {} {}", q.used, hex(&q.buffer), hex(&q.text))
+}
+
+// The answer of `calls` to that line.
+fn text_answer(q: &packs::Question) -> String {
+    match append_text(&q.text, &q.buffer, q.used) {
+        Ok((used, appended, after)) => format!("0 0 0 0 {} {} {}", used, appended, hex(&after)),
+        Err(f) => format!("{} {} {} {} 0 0 {}", f.code, f.record, f.line, f.word, hex(&q.buffer)),
+    }
+}
+
 // The bytes that `hex` wrote.
 fn unhex(h: &str) -> Option<Vec<u8>> {
     if h == "-" {
@@ -162,20 +180,28 @@ fn unhex(h: &str) -> Option<Vec<u8>> {
     h.as_bytes().chunks(2).map(|c| u8::from_str_radix(std::str::from_utf8(c).ok()?, 16).ok()).collect()
 }
 
-// What `mesh_question` wrote.
-fn parsed(line: &str) -> Option<Question> {
+// The answer to a line that `mesh_question` or `text_question` wrote.
+fn answer(line: &str) -> Option<String> {
     let w: Vec<&str> = line.split(' ').collect();
-    if w.len() != 5 || w[0] != "mesh" {
-        return None;
+    match w[..] {
+        ["mesh", limit, used, buffer, text] => Some(mesh_answer(&Question {
+            limit: limit.parse().ok()?,
+            used: used.parse().ok()?,
+            buffer: unhex(buffer)?,
+            text: unhex(text)?,
+        })),
+        ["text", used, buffer, text] => {
+            Some(text_answer(&packs::Question { used: used.parse().ok()?, buffer: unhex(buffer)?, text: unhex(text)? }))
+        }
+        _ => None,
     }
-    Some(Question { limit: w[1].parse().ok()?, used: w[2].parse().ok()?, buffer: unhex(w[3])?, text: unhex(w[4])? })
 }
 
 fn main() {
     let dir = std::env::args().nth(1).expect("usage: independent DIR, or independent -");
     if dir == "-" {
         for line in std::io::stdin().lines() {
-            println!("{}", parsed(&line.expect("a line")).map_or("?".to_string(), |q| mesh_answer(&q)));
+            println!("{}", answer(&line.expect("a line")).unwrap_or("?".to_string()));
         }
         return;
     }
@@ -206,4 +232,6 @@ fn main() {
     std::fs::write(format!("{}/lists.txt", dir), lists).expect("lists.txt");
     let meshes: String = texts::questions().iter().map(|q| format!("{} -> {}\n", mesh_question(q), mesh_answer(q))).collect();
     std::fs::write(format!("{}/meshes.txt", dir), meshes).expect("meshes.txt");
+    let packs: String = packs::questions().iter().map(|q| format!("{} -> {}\n", text_question(q), text_answer(q))).collect();
+    std::fs::write(format!("{}/packs.txt", dir), packs).expect("packs.txt");
 }

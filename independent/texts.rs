@@ -45,7 +45,7 @@ const SECTIONS: &[&str] = &[
 ];
 
 // Numbers that are no whole coordinates.
-const FRACTIONS: &[&str] = &["5.", ".5", ".0", "0.5", "1e3", "0e0", "5.0e0", "-1.8e-15", "+.5E+2", "1.000000001", "00.10", "1E-0"];
+pub const FRACTIONS: &[&str] = &["5.", ".5", ".0", "0.5", "1e3", "0e0", "5.0e0", "-1.8e-15", "+.5E+2", "1.000000001", "00.10", "1E-0"];
 
 // Whole coordinates outside some limit.
 const FAR: &[&str] = &[
@@ -54,7 +54,7 @@ const FAR: &[&str] = &[
 ];
 
 // Words that are no numbers.
-const WORDS: &[&str] = &[
+pub const WORDS: &[&str] = &[
     "nan", "-inf", "-", "+", ".", "-.", "e5", ".e1", "1e", "1e+", "1e5.0", "0x1", "1_0", "1,5", "1d3", "--1", "+-1", "5-", "1.5.2", "½",
 ];
 
@@ -72,12 +72,12 @@ const NASTY: &[&str] = &[
 const BYTES: &[u8] = b" \t\r\n\n0123456789+-.eE$EndN\x00\x0b\x0c\x1a\xa0\xff";
 
 // One of the words.
-fn pick_word(r: &mut Random, of: &[&str]) -> String {
+pub fn pick_word(r: &mut Random, of: &[&str]) -> String {
     r.pick(of).to_string()
 }
 
 // Whether something happens that does once in n times.
-fn once_in(r: &mut Random, n: u64) -> bool {
+pub fn once_in(r: &mut Random, n: u64) -> bool {
     r.next() % n == 0
 }
 
@@ -94,19 +94,19 @@ fn shuffle<T>(r: &mut Random, l: &mut [T]) {
 }
 
 // A whole coordinate, in one of its ways.
-fn coordinate(r: &mut Random, x: i32) -> String {
+pub fn coordinate(r: &mut Random, x: i32) -> String {
     let plus = if x == 0 { r.pick(&["", "", "-", "+"]) } else { r.pick(&["", "", "", "", "+"]) };
     let sign = if x < 0 { "-" } else { plus };
     format!("{}{}{}{}", sign, r.pick(&["", "", "", "", "", "00"]), x.unsigned_abs(), r.pick(&["", "", "", "", ".0", ".000"]))
 }
 
 // A number, now and then with zeros before it.
-fn number(r: &mut Random, n: u64) -> String {
+pub fn number(r: &mut Random, n: u64) -> String {
     format!("{}{}", r.pick(&["", "", "", "", "", "", "", "0", "0000000000000"]), n)
 }
 
 // The coordinates of an element, sometimes at the limit of its kind.
-fn coordinates(r: &mut Random, kind: u8) -> Vec<i32> {
+pub fn coordinates(r: &mut Random, kind: u8) -> Vec<i32> {
     let most = coordinate_limit(kind);
     match r.range(0, 5) {
         0 => (0..2 * kind as usize).map(|_| r.pick(&[most, -most, 0, most - 1, 1]) as i32).collect(),
@@ -333,7 +333,7 @@ fn lines(text: &[u8]) -> Vec<Vec<u8>> {
 }
 
 // A text with a word, a line or some byte of it changed.
-fn damaged(r: &mut Random, text: &[u8]) -> Vec<u8> {
+pub fn damaged(r: &mut Random, text: &[u8]) -> Vec<u8> {
     let mut out = text.to_vec();
     let mut rows = lines(text);
     if out.is_empty() {
@@ -371,7 +371,7 @@ fn damaged(r: &mut Random, text: &[u8]) -> Vec<u8> {
 }
 
 // Records with rising ids, the last one at most `last`.
-fn stored_records(r: &mut Random, count: usize, last: u32) -> Vec<Record> {
+pub fn stored_records(r: &mut Random, count: usize, last: u32) -> Vec<Record> {
     let mut out = Vec::new();
     for k in 0..count {
         let kind = r.pick(&[6, 6, 8, 9]);
@@ -382,7 +382,7 @@ fn stored_records(r: &mut Random, count: usize, last: u32) -> Vec<Record> {
 }
 
 // A fault in the block: its head, or its first or last record.
-fn spoil(r: &mut Random, block: &mut Vec<u8>) {
+pub fn spoil(r: &mut Random, block: &mut Vec<u8>) {
     let count = (block.len() - 9) / 80;
     if count == 0 || once_in(r, 3) {
         match r.range(0, 5) {

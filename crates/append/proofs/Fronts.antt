@@ -19,36 +19,35 @@ less : {low count room l n m : ℕ} {g : Given} {hs : List Given} → Carried lo
     → Carried (suc (g .id)) (suc count) (room - 80) hs l n m
 less k = record { low-is = k .low-is; count-is = omega (arith, k .count-is); room-is = omega (arith, k .room-is) }
 
-module _ {level : ℕ} where
-  pub passes-append : {low count room : ℕ} {hs gs : List Given} {l n m : ℕ}
-      → Carried low count room hs l n m
-      → Passes level low count room hs
-      → Passes level l n m gs
-      → Passes level low count room (hs ++ gs)
-  passes-append {low} {count} {room} {gs = gs} {l} {n} {m} k empty t =
-      let e : n ≡ count = omega (arith, k .count-is) in
-      let f : m ≡ room = omega (arith, k .room-is) in
-      rw (k .low-is) at (rw e at (rw f at t))
-  passes-append k (first a p) t = first a (passes-append (less k) p t)
+pub passes-append : {low count room : ℕ} {hs gs : List Given} {l n m : ℕ}
+    → Carried low count room hs l n m
+    → Passes low count room hs
+    → Passes l n m gs
+    → Passes low count room (hs ++ gs)
+passes-append {low} {count} {room} {gs = gs} {l} {n} {m} k empty t =
+    let e : n ≡ count = omega (arith, k .count-is) in
+    let f : m ≡ room = omega (arith, k .room-is) in
+    rw (k .low-is) at (rw e at (rw f at t))
+passes-append k (first a p) t = first a (passes-append (less k) p t)
 
-  pub stops-append : {low count room : ℕ} {hs gs : List Given} {l n m c : ℕ}
-      → Carried low count room hs l n m
-      → Passes level low count room hs
-      → Stops level l n m gs c
-      → Stops level low count room (hs ++ gs) c
-  stops-append {low} {count} {room} {gs = gs} {l} {n} {m} k empty t =
-      let e : n ≡ count = omega (arith, k .count-is) in
-      let f : m ≡ room = omega (arith, k .room-is) in
-      rw (k .low-is) at (rw e at (rw f at t))
-  stops-append k (first a p) t = later a (stops-append (less k) p t)
+pub stops-append : {low count room : ℕ} {hs gs : List Given} {l n m c : ℕ}
+    → Carried low count room hs l n m
+    → Passes low count room hs
+    → Stops l n m gs c
+    → Stops low count room (hs ++ gs) c
+stops-append {low} {count} {room} {gs = gs} {l} {n} {m} k empty t =
+    let e : n ≡ count = omega (arith, k .count-is) in
+    let f : m ≡ room = omega (arith, k .room-is) in
+    rw (k .low-is) at (rw e at (rw f at t))
+stops-append k (first a p) t = later a (stops-append (less k) p t)
 
-  -- ---- what those that pass have met
-  pub passes-room : {low count room : ℕ} {gs : List Given} → Passes level low count room gs → 80 * length gs ≤ room
-  passes-room empty = omega arith
-  passes-room (first a p) = omega (arith, passes-room p, N.lt-of-not-le (a .1 .1 .1 .1 .1 .1 .0))
+-- ---- what those that pass have met
+pub passes-room : {low count room : ℕ} {gs : List Given} → Passes low count room gs → 80 * length gs ≤ room
+passes-room empty = omega arith
+passes-room (first a p) = omega (arith, passes-room p, N.lt-of-not-le (a .1 .1 .1 .1 .1 .1 .0))
 
-  pub passes-few : {low count room : ℕ} {gs : List Given} → count ≤ 800 → Passes level low count room gs → count + length gs ≤ 800
-  passes-few h empty = omega arith
-  passes-few h (first a p) =
-      let n = N.lt-of-not-le (a .1 .1 .1 .1 .1 .0) in
-      omega (arith, passes-few n p)
+pub passes-few : {low count room : ℕ} {gs : List Given} → count ≤ 800 → Passes low count room gs → count + length gs ≤ 800
+passes-few h empty = omega arith
+passes-few h (first a p) =
+    let n = N.lt-of-not-le (a .1 .1 .1 .1 .1 .0) in
+    omega (arith, passes-few n p)

@@ -7,5 +7,6 @@ pub mod Runs
 pub mod States
 pub mod Filled
 pub mod Series
+pub mod Splits
 pub mod Fronts
 pub mod Turns

@@ -14,145 +14,136 @@ use mathlib.Core.Path.{_≡_, refl, sym, ap, _∙_, subst}
 use mathlib.Core.List.{List, [], _∷_, _++_, append-nil, append-assoc}
 use mathlib.Core.Logic.{inl, inr}
 use Prim.Native.Nat.{ℕ, _+_, _-_, _*_, _≤_}
-use native.Mathlib.Nat as N
 use native.Mathlib.Omega.{arith}
 use lib.ListN.{length, take, drop}
 use lib.Seq.{drop-drop}
 use Rattle.element.specs.Refusals.{Refused, Accepted}
 use Rattle.element.proofs.Refusals.{refused-unique, refused-accepted, refused-some}
 use Rattle.endian.specs.Numbers.{Bytes}
-use Rattle.endian.proofs.Numbers.{bytes-take}
 use Rattle.record.specs.declared.Record.{Record}
-use Rattle.block.specs.Block.{Holds, countOf, records-in}
+use Rattle.block.specs.Block.{Holds, countOf}
 use Rattle.block.specs.Faults.{Fault, lowest}
-use Rattle.block.proofs.Blocks.{accepted-holds}
 use Rattle.append.specs.declared.Appended.{Appended}
 use Rattle.append.specs.Append.{bufferCodes}
 use Rattle.append.specs.Series.{Given, Series, ended, stopped, onward, given, records, filled, IdsFit, nextCodes, Stops, here, later, Passes, first}
 use Rattle.append.proofs.Orders.{buffer-refused, append-some}
 use Rattle.append.proofs.Outcomes.{appends-unique, appended-is}
 use Rattle.append.proofs.Runs.{appended-holds, appended-rest}
-use Rattle.append.proofs.States.{State, state-of, refused-at, appended, state-next}
+use Rattle.append.proofs.States.{State, state-of, state-good, refused-at, appended, state-next}
 use Rattle.append.proofs.Filled.{Ran, ran-none, ran, ran-filled, ran-exact}
 
 -- ---- one outcome
-pub series-unique : {level : ℕ} {b : List ℕ} {used : ℕ} {gs : List Given} {r s : Appended} {a c : List ℕ}
-    → Series level b used gs r a
-    → Series level b used gs s c
+pub series-unique : {b : List ℕ} {used : ℕ} {gs : List Given} {r s : Appended} {a c : List ℕ}
+    → Series b used gs r a
+    → Series b used gs s c
     → (r ≡ s) × (a ≡ c)
 series-unique ended ended = (refl, refl)
-series-unique {level} {b} {used} {gs} {r} {s} {a} {c} (stopped {g = g} p h) (stopped q k) =
-    appends-unique b used (g .id) (g .kind) level (g .coords) r s a c p q
-series-unique {level} {b} {used} {gs} {r} {s} {a} {c} (stopped {g = g} p h) (onward {r = t} {a = d} q e u) =
-    absurd (h (ap (λ (x : Appended). x .code) (appends-unique b used (g .id) (g .kind) level (g .coords) r t a d p q .0) ∙ e))
-series-unique {level} {b} {used} {gs} {r} {s} {a} {c} (onward {g = g} {r = t} {a = d} p e u) (stopped q h) =
-    absurd (h (sym (ap (λ (x : Appended). x .code) (appends-unique b used (g .id) (g .kind) level (g .coords) t s d c p q .0)) ∙ e))
-series-unique {level} {b} {used} {gs} {r} {s} {a} {c} (onward {g = g} {gs = hs} {r = t} {a = d} p e u) (onward {r = v} {a = f} q k w) =
-    let n = appends-unique b used (g .id) (g .kind) level (g .coords) t v d f p q in
-    series-unique u (subst (λ (m : ℕ). Series level d m hs s c) (ap (λ (x : Appended). x .used) (sym (n .0)))
-    (subst (λ (l : List ℕ). Series level l (v .used) hs s c) (sym (n .1)) w))
+series-unique {b} {used} {gs} {r} {s} {a} {c} (stopped {g = g} p h) (stopped q k) =
+    appends-unique b used (g .id) (g .kind) (g .limit) (g .coords) r s a c p q
+series-unique {b} {used} {gs} {r} {s} {a} {c} (stopped {g = g} p h) (onward {r = t} {a = d} q e u) =
+    absurd (h (ap (λ (x : Appended). x .code) (appends-unique b used (g .id) (g .kind) (g .limit) (g .coords) r t a d p q .0) ∙ e))
+series-unique {b} {used} {gs} {r} {s} {a} {c} (onward {g = g} {r = t} {a = d} p e u) (stopped q h) =
+    absurd (h (sym (ap (λ (x : Appended). x .code) (appends-unique b used (g .id) (g .kind) (g .limit) (g .coords) t s d c p q .0)) ∙ e))
+series-unique {b} {used} {gs} {r} {s} {a} {c} (onward {g = g} {gs = hs} {r = t} {a = d} p e u) (onward {r = v} {a = f} q k w) =
+    let n = appends-unique b used (g .id) (g .kind) (g .limit) (g .coords) t v d f p q in
+    series-unique u (subst (λ (m : ℕ). Series d m hs s c) (ap (λ (x : Appended). x .used) (sym (n .0)))
+    (subst (λ (l : List ℕ). Series l (v .used) hs s c) (sym (n .1)) w))
 
 -- ---- one code, or none
-module _ {level : ℕ} where
-  pub stops-some : {low count room : ℕ} {gs : List Given} {c : ℕ} → Stops level low count room gs c → ¬ (c ≡ 0)
-  stops-some {low} {count} {room} {gs} {c} (here {g = g} r) = refused-some (nextCodes level low count room g) c tt r
-  stops-some (later a t) = stops-some t
+pub stops-some : {low count room : ℕ} {gs : List Given} {c : ℕ} → Stops low count room gs c → ¬ (c ≡ 0)
+stops-some {low} {count} {room} {gs} {c} (here {g = g} r) = refused-some (nextCodes low count room g) c tt r
+stops-some (later a t) = stops-some t
 
-  pub stops-unique : {low count room : ℕ} {gs : List Given} {c d : ℕ} → Stops level low count room gs c → Stops level low count room gs d → c ≡ d
-  stops-unique {low} {count} {room} {gs} {c} {d} (here {g = g} r) (here q) = refused-unique (nextCodes level low count room g) c d r q
-  stops-unique {low} {count} {room} {gs} {c} {d} (here {g = g} r) (later a t) = absurd (refused-accepted (nextCodes level low count room g) c r a)
-  stops-unique {low} {count} {room} {gs} {c} {d} (later {g = g} a t) (here r) = absurd (refused-accepted (nextCodes level low count room g) d r a)
-  stops-unique (later a t) (later w u) = stops-unique t u
+pub stops-unique : {low count room : ℕ} {gs : List Given} {c d : ℕ} → Stops low count room gs c → Stops low count room gs d → c ≡ d
+stops-unique {low} {count} {room} {gs} {c} {d} (here {g = g} r) (here q) = refused-unique (nextCodes low count room g) c d r q
+stops-unique {low} {count} {room} {gs} {c} {d} (here {g = g} r) (later a t) = absurd (refused-accepted (nextCodes low count room g) c r a)
+stops-unique {low} {count} {room} {gs} {c} {d} (later {g = g} a t) (here r) = absurd (refused-accepted (nextCodes low count room g) d r a)
+stops-unique (later a t) (later w u) = stops-unique t u
 
-  pub stops-passes : {low count room : ℕ} {gs : List Given} {c : ℕ} → Stops level low count room gs c → Passes level low count room gs → ⊥
-  stops-passes {low} {count} {room} {gs} {c} (here {g = g} r) (first a p) = refused-accepted (nextCodes level low count room g) c r a
-  stops-passes (later a t) (first w p) = stops-passes t p
+pub stops-passes : {low count room : ℕ} {gs : List Given} {c : ℕ} → Stops low count room gs c → Passes low count room gs → ⊥
+stops-passes {low} {count} {room} {gs} {c} (here {g = g} r) (first a p) = refused-accepted (nextCodes low count room g) c r a
+stops-passes (later a t) (first w p) = stops-passes t p
 
 -- ---- from a state on
-pub state-stops : {level : ℕ} {b : List ℕ} {used : ℕ} {rs : List Record} {low count room : ℕ} {gs : List Given} {c : ℕ}
+pub state-stops : {b : List ℕ} {used : ℕ} {rs : List Record} {low count room : ℕ} {gs : List Given} {c : ℕ}
     → State b used rs low count room
     → IdsFit gs
-    → Stops level low count room gs c
-    → (a : List ℕ) × Series level b used gs (record { code = c; number = 0; used = 0 }) a
-state-stops {level} {b} {used} {rs} {low} {count} {room} {gs} {c} s f (here {g = g} r) = (
+    → Stops low count room gs c
+    → (a : List ℕ) × Series b used gs (record { code = c; number = 0; used = 0 }) a
+state-stops {b} {used} {rs} {low} {count} {room} {gs} {c} s f (here {g = g} r) = (
   b,
-  stopped (inl (record { refused = refused-at s level g c r; no-used = refl; untouched = refl }))
-      (refused-some (nextCodes level low count room g) c tt r),
+  stopped (inl (record { refused = refused-at s g c r; no-used = refl; untouched = refl }))
+      (refused-some (nextCodes low count room g) c tt r),
 )
-state-stops {level} {b} {used} s f (later {g = g} a t) =
-    let n = state-stops (state-next s level g (f .0) a) (f .1) t in
-    (n .0, onward (inr (appended s level g a)) refl (n .1))
+state-stops {b} {used} s f (later {g = g} a t) =
+    let n = state-stops (state-next s g (f .0) a) (f .1) t in
+    (n .0, onward (inr (appended s g a)) refl (n .1))
 
-pub state-passes : {level : ℕ} {b : List ℕ} {used : ℕ} {rs : List Record} {low count room : ℕ} {gs : List Given}
+pub state-passes : {b : List ℕ} {used : ℕ} {rs : List Record} {low count room : ℕ} {gs : List Given}
     → State b used rs low count room
     → IdsFit gs
-    → Passes level low count room gs
-    → Ran level b used gs rs (used + 80 * length gs) (filled b used level gs)
+    → Passes low count room gs
+    → Ran b used gs rs (used + 80 * length gs) (filled b used gs)
 state-passes s f p = ran-exact (s .held) (ran s f p .2)
 
 -- ---- over a block
 module _ (b : List ℕ) (used : ℕ) where
-  -- the state of a good block
-  good : Bytes b → Accepted (bufferCodes b used)
-      → State b used (records-in (take used b)) (lowest (take used b) (countOf (take used b))) (countOf (take used b)) (length b - used)
-  good p ok = state-of (N.le-of-suc-le-suc (N.lt-of-not-le (ok .0))) (accepted-holds (take used b) (bytes-take used p) (ok .1))
-
-  pub series-refused : {g : Given} {gs : List Given} (level : ℕ) (f : Fault)
+  pub series-refused : {g : Given} {gs : List Given} (f : Fault)
       → Refused (bufferCodes b used) f
-      → Series level b used (g ∷ gs) (record { code = f .code; number = f .number; used = 0 }) b
-  series-refused {g} level f r =
-      let q = buffer-refused b used (g .id) (g .kind) level (g .coords) f r in
-      stopped (inl (record { refused = q; no-used = refl; untouched = refl })) (append-some b used (g .id) (g .kind) level (g .coords) f q)
+      → Series b used (g ∷ gs) (record { code = f .code; number = f .number; used = 0 }) b
+  series-refused {g} f r =
+      let q = buffer-refused b used (g .id) (g .kind) (g .limit) (g .coords) f r in
+      stopped (inl (record { refused = q; no-used = refl; untouched = refl })) (append-some b used (g .id) (g .kind) (g .limit) (g .coords) f q)
 
-  pub series-stops : {level : ℕ} {gs : List Given} {c : ℕ}
+  pub series-stops : {gs : List Given} {c : ℕ}
       → Bytes b
       → Accepted (bufferCodes b used)
       → IdsFit gs
-      → Stops level (lowest (take used b) (countOf (take used b))) (countOf (take used b)) (length b - used) gs c
-      → (a : List ℕ) × Series level b used gs (record { code = c; number = 0; used = 0 }) a
-  series-stops p ok f t = state-stops (good p ok) f t
+      → Stops (lowest (take used b) (countOf (take used b))) (countOf (take used b)) (length b - used) gs c
+      → (a : List ℕ) × Series b used gs (record { code = c; number = 0; used = 0 }) a
+  series-stops p ok f t = state-stops (state-good b used p ok) f t
 
-  pub series-passes : {level : ℕ} {gs : List Given}
+  pub series-passes : {gs : List Given}
       → Bytes b
       → Accepted (bufferCodes b used)
       → IdsFit gs
-      → Passes level (lowest (take used b) (countOf (take used b))) (countOf (take used b)) (length b - used) gs
-      → Series level b used gs (record { code = 0; number = 0; used = used + 80 * length gs }) (filled b used level gs)
-  series-passes p ok f t = state-passes (good p ok) f t .series
+      → Passes (lowest (take used b) (countOf (take used b))) (countOf (take used b)) (length b - used) gs
+      → Series b used gs (record { code = 0; number = 0; used = used + 80 * length gs }) (filled b used gs)
+  series-passes p ok f t = state-passes (state-good b used p ok) f t .series
 
-  pub filled-none : (level : ℕ) → Bytes b → Accepted (bufferCodes b used) → filled b used level [] ≡ b
-  filled-none level p ok = let h = good p ok .held in sym (ran-filled {used = used} h (ran-none {level = level} {used = used} h))
+  pub filled-none : Bytes b → Accepted (bufferCodes b used) → filled b used [] ≡ b
+  filled-none p ok = let h = state-good b used p ok .held in sym (ran-filled {used = used} h (ran-none {used = used} h))
 
-  pub series-holds : {level : ℕ} {gs : List Given} {rs : List Record}
+  pub series-holds : {gs : List Given} {rs : List Record}
       → used ≤ length b
       → Holds (take used b) rs
       → IdsFit gs
-      → Passes level (lowest (take used b) (countOf (take used b))) (countOf (take used b)) (length b - used) gs
-      → Holds (take (used + 80 * length gs) (filled b used level gs)) (rs ++ records level gs)
+      → Passes (lowest (take used b) (countOf (take used b))) (countOf (take used b)) (length b - used) gs
+      → Holds (take (used + 80 * length gs) (filled b used gs)) (rs ++ records gs)
   series-holds w h f t = state-passes (state-of w h) f t .holds
 
-  pub series-rest : {level : ℕ} {gs : List Given} {rs : List Record}
+  pub series-rest : {gs : List Given} {rs : List Record}
       → used ≤ length b
       → Holds (take used b) rs
       → IdsFit gs
-      → Passes level (lowest (take used b) (countOf (take used b))) (countOf (take used b)) (length b - used) gs
-      → drop (used + 80 * length gs) (filled b used level gs) ≡ drop (used + 80 * length gs) b
+      → Passes (lowest (take used b) (countOf (take used b))) (countOf (take used b)) (length b - used) gs
+      → drop (used + 80 * length gs) (filled b used gs) ≡ drop (used + 80 * length gs) b
   series-rest w h f t = state-passes (state-of w h) f t .rest
 
 -- ---- what a run leaves is read back
-pub series-reads : {level : ℕ} {b : List ℕ} {used : ℕ} {gs : List Given} {r : Appended} {a : List ℕ} {rs : List Record}
-    → Series level b used gs r a
+pub series-reads : {b : List ℕ} {used : ℕ} {gs : List Given} {r : Appended} {a : List ℕ} {rs : List Record}
+    → Series b used gs r a
     → r .code ≡ 0
     → IdsFit gs
     → Holds (take used b) rs
-    → Holds (take (r .used) a) (rs ++ records level gs)
+    → Holds (take (r .used) a) (rs ++ records gs)
 series-reads {rs = rs} ended e f h = rw (append-nil rs) h
 series-reads (stopped p n) e f h = absurd (n e)
-series-reads {level} {b} {used} {rs = rs} (onward {g = g} {gs = gs} {r = r} {a = a} p z s) e f h =
-    let q = appended-is b used (g .id) (g .kind) level (g .coords) r a p z in
-    let k : Holds (take (used + 80) a) (rs ++ (given level g ∷ [])) = appended-holds h (f .0) q in
-    let m = subst (λ n. Holds (take n a) (rs ++ (given level g ∷ []))) (ap (λ x. x .used) (sym (q .answer))) k in
-    subst (Holds _) (append-assoc rs (given level g ∷ []) (records level gs)) (series-reads s e (f .1) m)
+series-reads {b} {used} {rs = rs} (onward {g = g} {gs = gs} {r = r} {a = a} p z s) e f h =
+    let q = appended-is b used (g .id) (g .kind) (g .limit) (g .coords) r a p z in
+    let k : Holds (take (used + 80) a) (rs ++ (given g ∷ [])) = appended-holds h (f .0) q in
+    let m = subst (λ n. Holds (take n a) (rs ++ (given g ∷ []))) (ap (λ x. x .used) (sym (q .answer))) k in
+    subst (Holds _) (append-assoc rs (given g ∷ []) (records gs)) (series-reads s e (f .1) m)
 
 -- ---- and all bytes behind it stay
 drop-further : (m n : ℕ) (a b : List ℕ) → m ≤ n → drop m a ≡ drop m b → drop n a ≡ drop n b
@@ -160,17 +151,17 @@ drop-further m n a b h e =
     let k : m + (n - m) ≡ n = omega arith in
     ap (λ i. drop i a) (sym k) ∙ sym (drop-drop (n - m) m a) ∙ ap (drop (n - m)) e ∙ drop-drop (n - m) m b ∙ ap (λ i. drop i b) k
 
-pub series-behind : {level : ℕ} {b : List ℕ} {used : ℕ} {gs : List Given} {r : Appended} {a : List ℕ} {rs : List Record}
-    → Series level b used gs r a
+pub series-behind : {b : List ℕ} {used : ℕ} {gs : List Given} {r : Appended} {a : List ℕ} {rs : List Record}
+    → Series b used gs r a
     → r .code ≡ 0
     → IdsFit gs
     → Holds (take used b) rs
     → (used ≤ r .used) × (drop (r .used) a ≡ drop (r .used) b)
 series-behind ended e f h = (omega arith, refl)
 series-behind (stopped p n) e f h = absurd (n e)
-series-behind {level} {b} {used} {rs = rs} (onward {g = g} {gs = gs} {r = r} {s = s} {a = a} p z o) e f h =
-    let q = appended-is b used (g .id) (g .kind) level (g .coords) r a p z in
+series-behind {b} {used} {rs = rs} (onward {g = g} {gs = gs} {r = r} {s = s} {a = a} p z o) e f h =
+    let q = appended-is b used (g .id) (g .kind) (g .limit) (g .coords) r a p z in
     let u : r .used ≡ used + 80 = ap (λ x. x .used) (q .answer) in
-    let k : Holds (take (used + 80) a) (rs ++ (given level g ∷ [])) = appended-holds h (f .0) q in
-    let i = series-behind o e (f .1) (subst (λ n. Holds (take n a) (rs ++ (given level g ∷ []))) (sym u) k) in
+    let k : Holds (take (used + 80) a) (rs ++ (given g ∷ [])) = appended-holds h (f .0) q in
+    let i = series-behind o e (f .1) (subst (λ n. Holds (take n a) (rs ++ (given g ∷ []))) (sym u) k) in
     (omega (arith, u, i .0), i .1 ∙ drop-further (used + 80) (s .used) a b (omega (arith, u, i .0)) (appended-rest h (f .0) q))

@@ -19,5 +19,5 @@ use Rattle.append.proofs.Padded.{padded-length}
 pub short-given : (n level : ℕ) (xs : List ℤ) → Accepted (verdictCodes n level xs) → length xs ≤ 18
 short-given n level xs a = omega (arith, not-not (length xs) (2 * n) (a .1 .1 .0), known-small n (a .0))
 
-pub given-length : (level : ℕ) (g : Given) → length (g .coords) ≤ 18 → length (recordBytes (given level g)) ≡ 80
-given-length level g h = omega (arith, numbers-length (padded (g .coords)), padded-length (g .coords) h)
+pub given-length : (g : Given) → length (g .coords) ≤ 18 → length (recordBytes (given g)) ≡ 80
+given-length g h = omega (arith, numbers-length (padded (g .coords)), padded-length (g .coords) h)

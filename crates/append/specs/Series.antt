@@ -1,15 +1,15 @@
 -- A run of calls of `append_record`, one for each of a list, each on what the one before left; the first that is refused ends it.
---   Given            == what one call is given besides the buffer, the bytes used and the level limit
---   Series level b used gs r a == the run over gs answers r, and leaves a of b
---   given level g, records level gs == the record of what is given, and those of a list
---   filled b used level gs == b with the records of gs written from `used` on, and the count that many higher
+--   Given            == what one call is given besides the buffer and the bytes used
+--   Series b used gs r a == the run over gs answers r, and leaves a of b
+--   given g, records gs == the record of what is given, and those of a list
+--   filled b used gs == b with the records of gs written from `used` on, and the count that many higher
 --   IdsFit gs        == each id of gs fits four bytes
---   nextCodes level low count room g == the order of one call of the run: over a good block of so many records, with so many bytes behind
+--   nextCodes low count room g == the order of one call of the run: over a good block of so many records, with so many bytes behind
 --                       it, where low is the least id that may follow
 --   lowAfter low gs == the least id that may follow those of gs: low where there are none
 --   Carried low count room gs l n m == l, n and m are what low, count and room are after gs
---   Stops level low count room gs c == c is the code of the first of gs that is refused, each after the ones before
---   Passes level low count room gs == none of them is refused
+--   Stops low count room gs c == c is the code of the first of gs that is refused, each after the ones before
+--   Passes low count room gs == none of them is refused
 -- b and a are the buffer's content before and after, r is the answer.
 -- Definitions only.
 use mathlib.Core.Path.{_≡_}
@@ -29,38 +29,39 @@ use Rattle.append.specs.Calls.{withCount, Appends}
 pub record Given : Type 0 where
   pub id : ℕ
   pub kind : ℕ
+  pub limit : ℕ
   pub coords : List ℤ
 
 -- ---- call by call
-pub data Series (level : ℕ) : List ℕ → ℕ → List Given → Appended → List ℕ → Type 0 where
-  ended : {b : List ℕ} {used : ℕ} → Series level b used [] (record { code = 0; number = 0; used = used }) b
+pub data Series : List ℕ → ℕ → List Given → Appended → List ℕ → Type 0 where
+  ended : {b : List ℕ} {used : ℕ} → Series b used [] (record { code = 0; number = 0; used = used }) b
   stopped : {b : List ℕ} {used : ℕ} {g : Given} {gs : List Given} {r : Appended} {a : List ℕ}
-      → Appends b used (g .id) (g .kind) level (g .coords) r a
+      → Appends b used (g .id) (g .kind) (g .limit) (g .coords) r a
       → ¬ (r .code ≡ 0)
-      → Series level b used (g ∷ gs) r a
+      → Series b used (g ∷ gs) r a
   onward : {b : List ℕ} {used : ℕ} {g : Given} {gs : List Given} {r s : Appended} {a c : List ℕ}
-      → Appends b used (g .id) (g .kind) level (g .coords) r a
+      → Appends b used (g .id) (g .kind) (g .limit) (g .coords) r a
       → r .code ≡ 0
-      → Series level a (r .used) gs s c
-      → Series level b used (g ∷ gs) s c
+      → Series a (r .used) gs s c
+      → Series b used (g ∷ gs) s c
 
 -- ---- at once
-abbrev pub given : ℕ → Given → Record
-given level g = newRecord (g .id) (g .kind) level (g .coords)
+abbrev pub given : Given → Record
+given g = newRecord (g .id) (g .kind) (g .limit) (g .coords)
 
-abbrev pub records : ℕ → List Given → List Record
-records level gs = map (given level) gs
+abbrev pub records : List Given → List Record
+records gs = map given gs
 
-abbrev pub filled : List ℕ → ℕ → ℕ → List Given → List ℕ
-filled b used level gs = withCount (over b used (recordsBytes (records level gs))) (countOf (take used b) + length gs)
+abbrev pub filled : List ℕ → ℕ → List Given → List ℕ
+filled b used gs = withCount (over b used (recordsBytes (records gs))) (countOf (take used b) + length gs)
 
 -- ---- with numbers that are carried on
 abbrev pub IdsFit : List Given → Type 0
 IdsFit [] = Unit {0}
 IdsFit (g ∷ gs) = (g .id < 256 ^ 4) × IdsFit gs
 
-abbrev pub nextCodes : ℕ → ℕ → ℕ → ℕ → Given → Codes ℕ
-nextCodes level low count room g = verdictCodes (g .kind) level (g .coords) then followCodes low count room (g .id)
+abbrev pub nextCodes : ℕ → ℕ → ℕ → Given → Codes ℕ
+nextCodes low count room g = verdictCodes (g .kind) (g .limit) (g .coords) then followCodes low count room (g .id)
 
 abbrev pub lowAfter : ℕ → List Given → ℕ
 lowAfter low [] = low
@@ -71,18 +72,18 @@ pub record Carried (low count room : ℕ) (gs : List Given) (l n m : ℕ) : Type
   pub count-is : n ≡ count + length gs
   pub room-is : m ≡ room - 80 * length gs
 
-pub data Stops (level : ℕ) : ℕ → ℕ → ℕ → List Given → ℕ → Type 0 where
+pub data Stops : ℕ → ℕ → ℕ → List Given → ℕ → Type 0 where
   here : {low count room : ℕ} {g : Given} {gs : List Given} {c : ℕ}
-      → Refused (nextCodes level low count room g) c
-      → Stops level low count room (g ∷ gs) c
+      → Refused (nextCodes low count room g) c
+      → Stops low count room (g ∷ gs) c
   later : {low count room : ℕ} {g : Given} {gs : List Given} {c : ℕ}
-      → Accepted (nextCodes level low count room g)
-      → Stops level (suc (g .id)) (suc count) (room - 80) gs c
-      → Stops level low count room (g ∷ gs) c
+      → Accepted (nextCodes low count room g)
+      → Stops (suc (g .id)) (suc count) (room - 80) gs c
+      → Stops low count room (g ∷ gs) c
 
-pub data Passes (level : ℕ) : ℕ → ℕ → ℕ → List Given → Type 0 where
-  empty : {low count room : ℕ} → Passes level low count room []
+pub data Passes : ℕ → ℕ → ℕ → List Given → Type 0 where
+  empty : {low count room : ℕ} → Passes low count room []
   first : {low count room : ℕ} {g : Given} {gs : List Given}
-      → Accepted (nextCodes level low count room g)
-      → Passes level (suc (g .id)) (suc count) (room - 80) gs
-      → Passes level low count room (g ∷ gs)
+      → Accepted (nextCodes low count room g)
+      → Passes (suc (g .id)) (suc count) (room - 80) gs
+      → Passes low count room (g ∷ gs)

@@ -142,7 +142,7 @@ pub fn next_code(
     limit: u8,
     coords: &[i32],
 ) -> u8
-    ensures { λ r. ⌜ Coded (nextCodes limit low count room (record { id = id; kind = kind; coords = now (coords .entry) })) r ⌝ }
+    ensures { λ r. ⌜ Coded (nextCodes low count room (record { id = id; kind = kind; limit = limit; coords = now (coords .entry) })) r ⌝ }
 {
     let code = verdict_code(kind, limit, coords);
     if code != 0 {

@@ -25,5 +25,11 @@ pub fn answer(line: &[u8], out: &mut [u8]) -> usize {
     if is_word(line, 0, end, b"mesh") {
         return mesh_lines::mesh_line(line, at, out);
     }
+    if is_word(line, 0, end, b"text") {
+        return text_lines::text_line(line, at, out);
+    }
+    if is_word(line, 0, end, b"list") {
+        return list_lines::list_line(line, at, out);
+    }
     block_lines::block_line(line, end, out)
 }

@@ -8,34 +8,36 @@
 -- Assumes nothing.
 use mathlib.Core.Path.{_≡_, refl, sym, ap, ap₂, _∙_, subst}
 use mathlib.Core.Bool.{Bool, true, false, not, _&&_, _||_, true≢false, or-true}
-use mathlib.Core.List.{List, [], _∷_, List·Memᴰ, List·Memᴰ·head, List·Memᴰ·tail}
+use mathlib.Core.List.{List, [], _∷_, map, List·Memᴰ, List·Memᴰ·head, List·Memᴰ·tail}
 use mathlib.Core.Logic.{inl, inr}
-use Prim.Native.Nat.{ℕ, zero, suc, _+_, _-_, _*_, _≤_, _<_}
+use Prim.Native.Nat.{ℕ, _+_, _-_, _*_, _≤_, _<_}
 use native.Mathlib.Omega.{arith}
-use borrow.Author.Tests.{eq-eqb, leb-true}
-use lib.Dec.{eqb, leb}
-use lib.IntN.{ℤ, pos, natAbs}
-use lib.ListN.{length, getD, take}
-use Rattle.element.specs.Refusals.{Accepted, Beyond}
+use borrow.Author.Tests.{eq-eqb}
+use lib.Dec.{eqb}
+use lib.IntN.{ℤ}
+use lib.ListN.{length, take}
+use Rattle.element.specs.Refusals.{Accepted}
 use Rattle.element.proofs.Refusals.{coded-none, refused-accepted}
 use Rattle.endian.specs.Numbers.{Bytes}
 use Rattle.block.specs.Block.{countOf}
 use Rattle.block.specs.Faults.{lowest}
 use Rattle.append.specs.Append.{bufferCodes}
-use Rattle.append.specs.Series.{Given, Series, Passes, empty, first}
+use Rattle.append.specs.Series.{Given, Series}
 use Rattle.append.proofs.Series.{series-unique, series-passes}
+use Rattle.batch.proofs.Example.{triangle, triangle-passes}
 use Rattle.mesh_text.specs.Rows.{lines, words, rows, inClass}
 use Rattle.mesh_text.specs.Tests.{digitsB, unsigned, isMinus, tagB, exponentB, mantissaB, numberB, pointB, wholeB, numberOf, sizeOf, valueOf, zeroB}
+use Rattle.mesh_text.proofs.Rows.{by-test}
 use Rattle.mesh_text.proofs.Grammar.{and-both}
-use Rattle.mesh_form.specs.Mesh.{RepeatsIn, here, later}
+use Rattle.mesh_form.specs.Mesh.{Row, RepeatsIn, here, later}
 use Rattle.mesh_form.specs.Walk.{positiveB, versionB, formatB, nodeB, countB, wordB, leftB, elementB, endB, markB, opened, step, itemsAt, final, items, allB, doneB, formB, nodeRows, elementRows}
-use Rattle.mesh_form.specs.Values.{namesOf, sizeOfType, nine, wantedOf}
+use Rattle.mesh_form.specs.Values.{typeOf, namesOf, sizeOfType, nine, wantedOf}
 use Rattle.mesh_form.proofs.Formed.{form-true}
 use Rattle.mesh_numbers.specs.Numbers.{gather, nodeNumber, wantedBy, numbers, wanted, Repeated, Missing}
 use Rattle.mesh_nodes.specs.Nodes.{flatB, flatsB, rowOf, nodesIn}
 use Rattle.mesh_elements.specs.Orders.{order}
-use Rattle.mesh_elements.specs.Rows.{nameOf, coordOf, givensOf, passedOf}
-use Rattle.mesh.specs.Tallies.{takenIn, passedIn}
+use Rattle.mesh_elements.specs.Rows.{nameOf, coordOf, givenOf, givensOf, passedOf, elementsIn}
+use Rattle.mesh.specs.Taken.{takenIn, passedIn}
 use Rattle.mesh.specs.declared.Meshed.{Meshed}
 use Rattle.mesh.specs.Calls.{HasMesh, textCodes, meshCodes, Said, AppendsMesh}
 use Rattle.mesh.proofs.Opened.{mesh-accepted}
@@ -71,18 +73,26 @@ pub example-flat : flatsB (nodesIn example) ≡ true
 unfolding lines words rows inClass digitsB unsigned isMinus tagB exponentB mantissaB numberB pointB wholeB numberOf sizeOf valueOf zeroB positiveB versionB formatB nodeB countB wordB leftB elementB endB markB opened step itemsAt final items allB doneB nodeRows elementRows namesOf sizeOfType nine flatB flatsB rowOf order nameOf coordOf givensOf passedOf example
 example-flat = refl
 
--- the triangle 2, at (0,0) (8,0) (0,8), with the middles of its sides
-abbrev pub triangle : Given
-triangle =
-    record {
-      id = 2;
-      kind = 6;
-      coords = pos 0 ∷ pos 0 ∷ pos 8 ∷ pos 0 ∷ pos 0 ∷ pos 8 ∷ pos 4 ∷ pos 0 ∷ pos 4 ∷ pos 4 ∷ pos 0 ∷ pos 4 ∷ [];
-    }
+-- what is taken under one level limit, from what is taken under 0: the computation has no free name
+under : ℕ → Given → Given
+under level g = record { id = g .id; kind = g .kind; limit = level; coords = g .coords }
 
-pub example-taken : takenIn example ≡ triangle ∷ []
+givens-under : (level : ℕ) (v : List ℕ → ℤ) (rs qs : List Row) → givensOf level v rs qs ≡ map (under level) (givensOf 0 v rs qs)
+unfolding givensOf under
+givens-under level v rs [] = refl
+givens-under level v rs (q ∷ qs) =
+    let ih = givens-under level v rs qs in
+    by-test (eqb (sizeOfType (typeOf q)) 0) (givensOf level v rs (q ∷ qs) ≡ map (under level) (givensOf 0 v rs (q ∷ qs)))
+    (λ e. rw e ih)
+    (λ e. rw e (ap (λ l. givenOf level v rs q ∷ l) ih))
+
+taken-zero : takenIn 0 example ≡ triangle 2 0 ∷ []
 unfolding lines words rows inClass digitsB unsigned isMinus tagB exponentB mantissaB numberB pointB wholeB numberOf sizeOf valueOf zeroB positiveB versionB formatB nodeB countB wordB leftB elementB endB markB opened step itemsAt final items allB doneB nodeRows elementRows namesOf sizeOfType nine flatB flatsB rowOf order nameOf coordOf givensOf passedOf example
-example-taken = refl
+taken-zero = refl
+
+pub example-taken : (level : ℕ) → takenIn level example ≡ triangle 2 level ∷ []
+unfolding under
+example-taken level = givens-under level valueOf (nodesIn example) (elementsIn example) ∙ ap (map (under level)) taken-zero
 
 pub example-passed : passedIn example ≡ 1
 unfolding lines words rows inClass digitsB unsigned isMinus tagB exponentB mantissaB numberB pointB wholeB numberOf sizeOf valueOf zeroB positiveB versionB formatB nodeB countB wordB leftB elementB endB markB opened step itemsAt final items allB doneB nodeRows elementRows namesOf sizeOfType nine flatB flatsB rowOf order nameOf coordOf givensOf passedOf example
@@ -133,45 +143,22 @@ example-mesh = has-mesh example (form-true example example-form) example-once
 pub example-accepted : Accepted (textCodes example)
 example-accepted = coded-none (text-good example example-mesh example-flat example-listed) tt refl
 
-pub example-said : Said example (triangle ∷ []) 1
-example-said =
-    subst (λ gs. Said example gs 1) example-taken (subst (Said example (takenIn example)) example-passed (said-of example example-accepted))
+pub example-said : (level : ℕ) → Said example level (triangle 2 level ∷ []) 1
+example-said level =
+    subst (λ gs. Said example level gs 1) (example-taken level)
+    (subst (Said example level (takenIn level example)) example-passed (said-of example example-accepted level))
 
 -- ---- so no call may refuse it, over a good block with room, where the limit is one of triangles
-withinB : ℕ → List ℤ → Bool
-withinB n [] = true
-withinB n (z ∷ zs) = leb (natAbs z) n && withinB n zs
-
-within : (n : ℕ) (zs : List ℤ) → withinB n zs ≡ true → ¬ Beyond n zs
-unfolding withinB
-within n [] e b = absurd (omega (arith, b .1))
-within n (z ∷ zs) e b =
-    let t = and-both (leb (natAbs z) n) (withinB n zs) e in
-    at-place (leb-true (natAbs z) n (t .0)) (λ w. within n zs (t .1) w) (b .0) (b .1) (b .2)
-  where
-    at-place : natAbs z ≤ n → (Beyond n zs → ⊥) → (i : ℕ) → i < suc (length zs) → n < natAbs (getD (z ∷ zs) i (pos 0)) → ⊥
-    at-place t ih zero h k = absurd (omega arith)
-    at-place t ih (suc i) h k = ih (i, omega arith, k)
-
 module _ (level : ℕ) (b : List ℕ) (used : ℕ) (y : Bytes b) (a : Accepted (bufferCodes b used)) (l : level ≤ 10)
     (low : lowest (take used b) (countOf (take used b)) ≤ 2) (few : countOf (take used b) < 800) (room : used + 80 ≤ length b) where
-  triangle-passes : Passes level (lowest (take used b) (countOf (take used b))) (countOf (take used b)) (length b - used) (triangle ∷ [])
-  unfolding withinB
-  triangle-passes =
-      let level-ok : ¬ (10 < level) = λ k. absurd (omega arith) in
-      let id-ok : ¬ (2 < lowest (take used b) (countOf (take used b))) = λ k. absurd (omega arith) in
-      let count-ok : ¬ (800 ≤ countOf (take used b)) = λ k. absurd (omega arith) in
-      let room-ok : ¬ (length b - used < 80) = λ k. absurd (omega arith) in
-      first ((λ k. k .0 refl), (level-ok, ((λ k. k refl), (within 65536 (triangle .coords) refl, (id-ok, (count-ok, (room-ok, tt))))))) empty
-
   pub example-answer : (r : Meshed) (c : List ℕ) → AppendsMesh example level b used r c
       → r ≡ record { code = 0; number = 0; used = used + 80; appended = 1; passed = 1 }
   example-answer r c (inl n) =
       absurd (refused-accepted (meshCodes example b used) (record { code = r .code; number = r .number }) (n .refused) (mesh-accepted example b used example-accepted a))
   example-answer r c (inr (inl n)) =
-      let e = said-unique (n .said) example-said .0 in
-      let q = series-passes b used y a (omega arith, tt) triangle-passes in
-      absurd (n .some (ap (λ x. x .code) (series-unique (subst (λ gs. Series level b used gs (record { code = r .code; number = 0; used = 0 }) (n .left)) e (n .stopped)) q .0)))
+      let e = said-unique (n .said) (example-said level) .0 in
+      let q = series-passes b used y a (omega arith, tt) (triangle-passes 2 level b used l low few room) in
+      absurd (n .some (ap (λ x. x .code) (series-unique (subst (λ gs. Series b used gs (record { code = r .code; number = 0; used = 0 }) (n .left)) e (n .stopped)) q .0)))
   example-answer r c (inr (inr n)) =
-      let e = said-unique (n .said) example-said in
+      let e = said-unique (n .said) (example-said level) in
       n .answer ∙ ap₂ (λ (gs : List Given) (p : ℕ). record { code = 0; number = 0; used = used + 80 * length gs; appended = length gs; passed = p }) (e .0) (e .1)

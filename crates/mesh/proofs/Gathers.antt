@@ -17,6 +17,9 @@ use lib.IntN.{ℤ}
 use lib.ListN.{length, drop, length-append}
 use Rattle.append.specs.Series.{Given}
 use Rattle.append.proofs.Fronts.{passes-append, passes-few}
+use Rattle.batch.specs.declared.Tally.{Tally}
+use Rattle.batch.specs.Tallies.{Moved, Halted, Moves}
+use Rattle.batch.proofs.Tallies.{moved-none, moved-more, moved-halted, halted-front}
 use Rattle.mesh_text.specs.Rows.{All, none, both, line}
 use Rattle.mesh_text.specs.Tests.{valueOf}
 use Rattle.mesh_text.proofs.Rows.{by-test}
@@ -30,9 +33,7 @@ use Rattle.mesh_form.proofs.Passes.{left, left-start, left-next}
 use Rattle.mesh_nodes.specs.Nodes.{nodesIn}
 use Rattle.mesh_nodes.proofs.Passes.{by-kind, elements-end, elements-node, elements-element}
 use Rattle.mesh_elements.specs.Rows.{givenOf, givensOf, passedOf, elementsIn}
-use Rattle.mesh.specs.declared.Tally.{Tally}
-use Rattle.mesh.specs.Tallies.{rowsOf, takenIn, passedIn, Moved, Halted, Moves}
-use Rattle.mesh.proofs.Tallies.{moved-none, moved-more, moved-halted, halted-front}
+use Rattle.mesh.specs.Taken.{rowsOf, takenIn, passedIn}
 
 -- ---- one row
 rows-none : (k : ℕ) (r : Row) → (k ≡ 2 → ⊥) → rowsOf k r ≡ []
@@ -43,29 +44,29 @@ rows-one k r e = ap (λ b. cond b (r ∷ []) []) (eq-eqb k 2 e)
 
 module _ (level : ℕ) (rs : List Row) (r : Row) (s u : Tally) (b a : List ℕ) where
   abbrev Rowed : List Row → Type 0
-  Rowed qs = Moves level (givensOf valueOf rs qs) (passedOf qs) s b u a
+  Rowed qs = Moves (givensOf level valueOf rs qs) (passedOf qs) s b u a
 
-  pub row-other : (k : ℕ) → (k ≡ 2 → ⊥) → Moved level [] 0 s b u a → Rowed (rowsOf k r)
+  pub row-other : (k : ℕ) → (k ≡ 2 → ⊥) → Moved [] 0 s b u a → Rowed (rowsOf k r)
   unfolding givensOf passedOf
   row-other k n m = subst Rowed (sym (rows-none k r n)) (inl m)
 
-  pub row-passed : (k : ℕ) → k ≡ 2 → sizeOfType (typeOf r) ≡ 0 → Moved level [] 1 s b u a → Rowed (rowsOf k r)
+  pub row-passed : (k : ℕ) → k ≡ 2 → sizeOfType (typeOf r) ≡ 0 → Moved [] 1 s b u a → Rowed (rowsOf k r)
   unfolding givensOf passedOf
   row-passed k e z m = subst Rowed (sym (rows-one k r e)) (rw (eq-eqb (sizeOfType (typeOf r)) 0 z) (inl m))
 
-  pub row-taken : (k : ℕ) → k ≡ 2 → (sizeOfType (typeOf r) ≡ 0 → ⊥) → Moves level (givenOf valueOf rs r ∷ []) 0 s b u a → Rowed (rowsOf k r)
+  pub row-taken : (k : ℕ) → k ≡ 2 → (sizeOfType (typeOf r) ≡ 0 → ⊥) → Moves (givenOf level valueOf rs r ∷ []) 0 s b u a → Rowed (rowsOf k r)
   unfolding givensOf passedOf
   row-taken k e z m = subst Rowed (sym (rows-one k r e)) (rw (ne-eqb (sizeOfType (typeOf r)) 0 z) m)
 
 -- ---- rows one behind the other
-givens-append : (v : List ℕ → ℤ) (rs qs us : List Row) → givensOf v rs (qs ++ us) ≡ givensOf v rs qs ++ givensOf v rs us
+givens-append : (level : ℕ) (v : List ℕ → ℤ) (rs qs us : List Row) → givensOf level v rs (qs ++ us) ≡ givensOf level v rs qs ++ givensOf level v rs us
 unfolding givensOf
-givens-append v rs [] us = refl
-givens-append v rs (q ∷ qs) us =
-    let ih = givens-append v rs qs us in
-    by-test (eqb (sizeOfType (typeOf q)) 0) (givensOf v rs (q ∷ (qs ++ us)) ≡ givensOf v rs (q ∷ qs) ++ givensOf v rs us)
+givens-append level v rs [] us = refl
+givens-append level v rs (q ∷ qs) us =
+    let ih = givens-append level v rs qs us in
+    by-test (eqb (sizeOfType (typeOf q)) 0) (givensOf level v rs (q ∷ (qs ++ us)) ≡ givensOf level v rs (q ∷ qs) ++ givensOf level v rs us)
     (λ e. rw e ih)
-    (λ e. rw e (ap (λ l. givenOf v rs q ∷ l) ih))
+    (λ e. rw e (ap (λ l. givenOf level v rs q ∷ l) ih))
 
 passed-append : (qs us : List Row) → passedOf (qs ++ us) ≡ passedOf qs + passedOf us
 unfolding passedOf
@@ -101,8 +102,8 @@ Fresh z b = (z .taken ≡ 0) × (z .count ≤ 800) × (64000 ≤ length b)
 pub record Keeps (level : ℕ) (t : List ℕ) (z : Tally) (b : List ℕ) (s : Tally) (a : List ℕ) (f : Found) : Type 0 where
   pub done : List Given
   pub out : ℕ
-  pub moved : Moved level done out z b s a
-  pub all-given : takenIn t ≡ done ++ givensOf valueOf (nodesIn t) (elementRows (left t f))
+  pub moved : Moved done out z b s a
+  pub all-given : takenIn level t ≡ done ++ givensOf level valueOf (nodesIn t) (elementRows (left t f))
   pub all-passed : passedIn t ≡ out + passedOf (elementRows (left t f))
   pub fit : All (λ r. idOf r < 4294967296) (elementRows (left t f))
   pub cursor : Cursor
@@ -121,8 +122,8 @@ module _ (level : ℕ) (t : List ℕ) (z : Tally) (b : List ℕ) where
       record {
         done = [];
         out = 0;
-        moved = moved-none level z b c;
-        all-given = ap (λ l. givensOf valueOf (nodesIn t) (elementRows l)) e;
+        moved = moved-none z b c;
+        all-given = ap (λ l. givensOf level valueOf (nodesIn t) (elementRows l)) e;
         all-passed = ap (λ l. passedOf (elementRows l)) e ∙ omega arith;
         fit = subst (λ l. All (λ q. idOf q < 4294967296) (elementRows l)) e h;
         cursor = record { at = 0; part = Outside false };
@@ -135,10 +136,10 @@ module _ (level : ℕ) (t : List ℕ) (z : Tally) (b : List ℕ) where
     row = line (drop (f .at) t)
 
     abbrev here : List Given
-    here = givensOf valueOf (nodesIn t) (rowsOf (f .kind) row)
+    here = givensOf level valueOf (nodesIn t) (rowsOf (f .kind) row)
 
     abbrev rest : List Given
-    rest = givensOf valueOf (nodesIn t) (elementRows (itemsFrom t (f .next)))
+    rest = givensOf level valueOf (nodesIn t) (elementRows (itemsFrom t (f .next)))
 
     pub keeps-room : 80 * (z .taken + length (k .done)) ≤ length b
     keeps-room = omega (arith, h .0, h .1, h .2, passes-few (h .1) (k .moved .passes))
@@ -149,11 +150,11 @@ module _ (level : ℕ) (t : List ℕ) (z : Tally) (b : List ℕ) where
         all-head : {q : Row} {qs : List Row} → All (λ p. idOf p < 4294967296) (q ∷ qs) → idOf q < 4294967296
         all-head (both p a) = p
 
-    given-here : (f .kind ≡ 0 → ⊥) → takenIn t ≡ (k .done ++ here) ++ rest
+    given-here : (f .kind ≡ 0 → ⊥) → takenIn level t ≡ (k .done ++ here) ++ rest
     given-here n =
         k .all-given
-        ∙ ap (λ l. k .done ++ givensOf valueOf (nodesIn t) l) (rows-left t (k .cursor) f (k .reads) n)
-        ∙ ap (λ l. k .done ++ l) (givens-append valueOf (nodesIn t) (rowsOf (f .kind) row) (elementRows (itemsFrom t (f .next))))
+        ∙ ap (λ l. k .done ++ givensOf level valueOf (nodesIn t) l) (rows-left t (k .cursor) f (k .reads) n)
+        ∙ ap (λ l. k .done ++ l) (givens-append level valueOf (nodesIn t) (rowsOf (f .kind) row) (elementRows (itemsFrom t (f .next))))
         ∙ sym (append-assoc (k .done) here rest)
 
     passed-here : (f .kind ≡ 0 → ⊥) → passedIn t ≡ k .out + passedOf (rowsOf (f .kind) row) + passedOf (elementRows (itemsFrom t (f .next)))
@@ -164,7 +165,7 @@ module _ (level : ℕ) (t : List ℕ) (z : Tally) (b : List ℕ) where
 
     pub keeps-next : {u : Tally} {c : List ℕ} (g : Found)
         → (f .kind ≡ 0 → ⊥)
-        → Moved level here (passedOf (rowsOf (f .kind) row)) s a u c
+        → Moved here (passedOf (rowsOf (f .kind) row)) s a u c
         → Reads 2 t (f .next) g
         → Keeps level t z b u c g
     keeps-next {u} {c} g n m r =
@@ -175,8 +176,8 @@ module _ (level : ℕ) (t : List ℕ) (z : Tally) (b : List ℕ) where
         record {
           done = k .done ++ here;
           out = k .out + passedOf (rowsOf (f .kind) row);
-          moved = moved-more level (k .moved) m room;
-          all-given = given-here n ∙ ap (λ l. (k .done ++ here) ++ givensOf valueOf (nodesIn t) (elementRows l)) e;
+          moved = moved-more (k .moved) m room;
+          all-given = given-here n ∙ ap (λ l. (k .done ++ here) ++ givensOf level valueOf (nodesIn t) (elementRows l)) e;
           all-passed = passed-here n ∙ ap (λ l. k .out + passedOf (rowsOf (f .kind) row) + passedOf (elementRows l)) e;
           fit = subst (λ l. All (λ x. idOf x < 4294967296) (elementRows l)) e
               (all-front (rowsOf (f .kind) row) (elementRows (itemsFrom t (f .next))) (subst (All (λ x. idOf x < 4294967296)) (rows-left t (k .cursor) f (k .reads) n) (k .fit)) .1);
@@ -185,14 +186,14 @@ module _ (level : ℕ) (t : List ℕ) (z : Tally) (b : List ℕ) where
           few = omega (arith, m .left-out, k .few, q, k .reads .onwards n);
         }
 
-    pub keeps-halted : {u : Tally} {c : List ℕ} → (f .kind ≡ 0 → ⊥) → Halted level here s a u c → Halted level (takenIn t) z b u c
+    pub keeps-halted : {u : Tally} {c : List ℕ} → (f .kind ≡ 0 → ⊥) → Halted here s a u c → Halted (takenIn level t) z b u c
     keeps-halted {u} {c} n q =
-        subst (λ l. Halted level l z b u c) (sym (given-here n)) (halted-front level rest (moved-halted level (k .moved) q keeps-room))
+        subst (λ l. Halted l z b u c) (sym (given-here n)) (halted-front rest (moved-halted (k .moved) q keeps-room))
 
-    pub keeps-end : f .kind ≡ 0 → Moved level (takenIn t) (passedIn t) z b s a
+    pub keeps-end : f .kind ≡ 0 → Moved (takenIn level t) (passedIn t) z b s a
     unfolding givensOf passedOf
     keeps-end e =
         let l = elements-end t (k .cursor) f (k .reads) e in
-        let g = k .all-given ∙ ap (λ qs. k .done ++ givensOf valueOf (nodesIn t) qs) l ∙ append-nil (k .done) in
+        let g = k .all-given ∙ ap (λ qs. k .done ++ givensOf level valueOf (nodesIn t) qs) l ∙ append-nil (k .done) in
         let p : passedIn t ≡ k .out = k .all-passed ∙ ap (λ qs. k .out + passedOf qs) l ∙ omega arith in
-        subst (λ n. Moved level (takenIn t) n z b s a) (sym p) (subst (λ gs. Moved level gs (k .out) z b s a) (sym g) (k .moved))
+        subst (λ n. Moved (takenIn level t) n z b s a) (sym p) (subst (λ gs. Moved gs (k .out) z b s a) (sym g) (k .moved))

@@ -1,8 +1,6 @@
 pub mod Takes
-pub mod Tallies
 pub mod Gathers
 pub mod Readings
-pub mod Copies
 pub mod Opened
 pub mod Loads
 pub mod Outcomes

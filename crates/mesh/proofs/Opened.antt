@@ -1,42 +1,28 @@
--- A buffer with a good block: its sizes, and what the codes before the elements are.
---   used-within, block-size, block-few : what such a buffer is like
+-- What the codes before the elements are.
 --   buffer-refused, text-refused, mesh-accepted : the order of the text, and then that of the buffer
 --   text-accepted, buffer-accepted : what a call that is accepted has met
 --   not-opened     : the answer of a refusal before any element
---   zeros-long, zeros-seat : arrays that are clear
+--   zeros-seat     : places that are clear
 --   used-beyond, block-refused, block-counted : by what `used` and the check of the block say
 -- Assumes nothing.
-use mathlib.Core.Path.{_≡_, refl, sym, ap, _∙_, subst}
+use mathlib.Core.Path.{_≡_, refl, sym, ap, subst}
 use mathlib.Core.Logic.{inl, inr}
 use mathlib.Core.List.{List}
-use Prim.Native.Nat.{ℕ, zero, suc, _+_, _-_, _*_, _≤_, _<_}
-use native.Mathlib.Nat as N
+use Prim.Native.Nat.{ℕ, zero, suc, _≤_, _<_}
 use native.Mathlib.Omega.{arith}
-use lib.ListN.{length, take, replicate, length-replicate}
-use lib.Seq.{length-take-le}
+use lib.ListN.{length, take, replicate}
 use Rattle.element.specs.Refusals.{Refused, Accepted}
 use Rattle.block.specs.Block.{countOf}
 use Rattle.block.specs.declared.Checked.{Checked}
 use Rattle.block.specs.Calls.{Checks}
 use Rattle.block.specs.Faults.{Fault, naming, blockCodes}
 use Rattle.block.proofs.Orders.{refused-then, past-then, accepted-then, then-accepted, refused-of, accepted-of, of-accepted}
-use Rattle.block.proofs.Header.{header-few, header-size}
-use Rattle.block.proofs.Walk.{accepted-header, block-some}
+use Rattle.block.proofs.Walk.{block-some}
 use Rattle.append.specs.Append.{bufferCodes}
 use Rattle.mesh_text.specs.Rows.{none, both}
 use Rattle.mesh_nodes.specs.Nodes.{Seats}
 use Rattle.mesh.specs.declared.Meshed.{Meshed}
 use Rattle.mesh.specs.Calls.{textCodes, meshCodes, refusal, NotOpened}
-
-module _ (b : List ℕ) (used : ℕ) (a : Accepted (bufferCodes b used)) where
-  pub used-within : used ≤ length b
-  used-within = N.le-of-suc-le-suc (N.lt-of-not-le (a .0))
-
-  pub block-size : used ≡ 9 + 80 * countOf (take used b)
-  block-size = sym (length-take-le used b used-within) ∙ header-size (take used b) (accepted-header (take used b) (a .1))
-
-  pub block-few : countOf (take used b) ≤ 800
-  block-few = header-few (take used b) (accepted-header (take used b) (a .1))
 
 module _ (t b : List ℕ) (used : ℕ) where
   pub buffer-refused : (f : Fault) → Accepted (textCodes t) → Refused (bufferCodes b used) f → Refused (meshCodes t b used) f
@@ -85,10 +71,7 @@ module _ (t b : List ℕ) (used : ℕ) where
         counted-by (inl q) = absurd (block-some (take used b) (record { code = r .code; number = r .number }) (q .refused) z)
         counted-by (inr q) = (mesh-accepted a (within, q .accepted), ap (λ u. u .count) (q .answer))
 
--- ---- arrays that are clear
-pub zeros-long : (w : ℕ) → w ≤ length (replicate {A = ℕ} w 0)
-zeros-long w = omega (arith, length-replicate {A = ℕ} w 0)
-
+-- ---- places that are clear
 pub zeros-seat : (t : List ℕ) (w : ℕ) → Seats t (replicate w 0)
 zeros-seat t zero = none
 zeros-seat t (suc w) = both (inl refl) (zeros-seat t w)

@@ -26,10 +26,10 @@ use Rattle.mesh_elements.proofs.Takings.{takings-unique, takings-fit, takings-c
 use Rattle.mesh.specs.declared.Meshed.{Meshed}
 use Rattle.mesh.specs.Calls.{meshCodes, Said, refusal, NotOpened, NotTaken, IsTaken, AppendsMesh}
 
-pub said-unique : {t : List ℕ} {gs hs : List Given} {p q : ℕ} → Said t gs p → Said t hs q → (gs ≡ hs) × (p ≡ q)
-said-unique {gs = gs} {p = p} a b =
+pub said-unique : {t : List ℕ} {level : ℕ} {gs hs : List Given} {p q : ℕ} → Said t level gs p → Said t level hs q → (gs ≡ hs) × (p ≡ q)
+said-unique {level = level} {gs = gs} {p = p} a b =
     let m = mesh-unique (a .mesh) (b .mesh) in
-    let w = subst (λ ns. Takings ns (b .elements) gs p) (m .0) (subst (λ es. Takings (a .nodes) es gs p) (m .1) (a .takings)) in
+    let w = subst (λ ns. Takings level ns (b .elements) gs p) (m .0) (subst (λ es. Takings level (a .nodes) es gs p) (m .1) (a .takings)) in
     takings-unique (b .mesh .once) w (b .takings)
 
 -- ---- one outcome
@@ -43,8 +43,8 @@ module _ (t : List ℕ) (level : ℕ) (b : List ℕ) (used : ℕ) where
       (n .zeros ∙ ap₂ refusal (ap (λ f. f .code) e) (ap (λ f. f .number) e) ∙ sym (m .zeros), n .untouched ∙ sym (m .untouched))
 
   -- two runs over what is taken
-  runs-unique : {gs hs : List Given} {x y : Appended} {u v : List ℕ} → gs ≡ hs → Series level b used gs x u → Series level b used hs y v → (x ≡ y) × (u ≡ v)
-  runs-unique {x = x} {u = u} e m n = series-unique (subst (λ l. Series level b used l x u) e m) n
+  runs-unique : {gs hs : List Given} {x y : Appended} {u v : List ℕ} → gs ≡ hs → Series b used gs x u → Series b used hs y v → (x ≡ y) × (u ≡ v)
+  runs-unique {x = x} {u = u} e m n = series-unique (subst (λ l. Series b used l x u) e m) n
 
   stopped-unique : (r s : Meshed) (a c : List ℕ) → NotTaken t level b used r a → NotTaken t level b used s c → (r ≡ s) × (a ≡ c)
   stopped-unique r s a c n m =
@@ -83,7 +83,7 @@ module _ (t : List ℕ) (level : ℕ) (b : List ℕ) (used : ℕ) where
     pub mesh-counts : r .appended + r .passed ≡ length (n .said .elements)
     mesh-counts = ap₂ (λ (i j : ℕ). i + j) (ap (λ x. x .appended) (n .answer)) (ap (λ x. x .passed) (n .answer)) ∙ takings-count (n .said .takings)
 
-    pub mesh-reads : {rs : List Record} → Holds (take used b) rs → Holds (take (r .used) a) (rs ++ records level (n .given))
+    pub mesh-reads : {rs : List Record} → Holds (take used b) rs → Holds (take (r .used) a) (rs ++ records (n .given))
     mesh-reads h = series-reads (n .done) refl (takings-fit (n .said .takings) (numbers-small (n .said .mesh .form))) h
 
     pub mesh-behind : {rs : List Record} → Holds (take used b) rs → drop (r .used) a ≡ drop (r .used) b

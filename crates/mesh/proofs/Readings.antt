@@ -26,7 +26,7 @@ use Rattle.mesh_elements.specs.Rows.{elementsIn}
 use Rattle.mesh_elements.proofs.Rows.{numbers-are, ids-small}
 use Rattle.mesh_elements.proofs.Flats.{flats-false, flats-all}
 use Rattle.mesh_elements.proofs.Takings.{takings}
-use Rattle.mesh.specs.Tallies.{takenIn, passedIn}
+use Rattle.mesh.specs.Taken.{takenIn, passedIn}
 use Rattle.mesh.specs.Calls.{HasMesh, Unfit, textCodes, Said}
 
 module _ (t : List ℕ) where
@@ -75,15 +75,15 @@ module _ (t : List ℕ) where
     pub mesh-of : HasMesh t
     mesh-of = mesh-stable (a .0)
 
-    pub said-of : Said t (takenIn t) (passedIn t)
-    said-of =
+    pub said-of : (level : ℕ) → Said t level (takenIn level t) (passedIn t)
+    said-of level =
         let m = mesh-of in
         record {
           nodes = m .0;
           elements = m .1 .0;
           mesh = m .1 .1;
           takings =
-              takings (m .1 .1 .form)
+              takings level (m .1 .1 .form)
               (λ n. a .1 .0 (record { nodes = m .0; elements = m .1 .0; form = m .1 .1 .form; not-flat = n }))
               (λ u. a .1 .1 .0 (record { nodes = m .0; elements = m .1 .0; form = m .1 .1 .form; unlisted = u }));
         }

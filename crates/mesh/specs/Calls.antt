@@ -3,7 +3,7 @@
 --   Unfit t, Lacking t == codes 14 and 15 of a text of the form, also where a number stands twice
 --   textCodes t      == the order of the text: "13 over the whole text first, then 14, then 15"
 --   meshCodes t b used == "then append's for `used` and block, even with nothing to append"
---   Said t gs p      == gs are what is taken of the text, and p of its elements are passed over
+--   Said t level gs p == gs are what is taken of the text, each with this level limit, and p of its elements are passed over
 --   refusal c n      == the answer of a refusal
 --   NotOpened t b used r a == a refusal before any element is tried
 --   NotTaken t level b used r a == a refusal of an element: the code of the first `append_record` of the run that is refused
@@ -51,11 +51,11 @@ textCodes t = code 13 (¬ HasMesh t) (code 14 (Unfit t) (code 15 (Lacking t) no-
 abbrev pub meshCodes : List ℕ → List ℕ → ℕ → Codes Fault
 meshCodes t b used = naming 0 (textCodes t) then bufferCodes b used
 
-pub record Said (t : List ℕ) (gs : List Given) (p : ℕ) : Type 0 where
+pub record Said (t : List ℕ) (level : ℕ) (gs : List Given) (p : ℕ) : Type 0 where
   pub nodes : List Node
   pub elements : List Element
   pub mesh : Mesh t nodes elements
-  pub takings : Takings nodes elements gs p
+  pub takings : Takings level nodes elements gs p
 
 -- ---- the answer
 -- "A refusal returns the code, the record number for faults in a stored record (else 0), zero in all other fields"
@@ -72,9 +72,9 @@ pub record NotTaken (t : List ℕ) (level : ℕ) (b : List ℕ) (used : ℕ) (r 
   pub accepted : Accepted (meshCodes t b used)
   pub given : List Given
   pub passed : ℕ
-  pub said : Said t given passed
+  pub said : Said t level given passed
   pub left : List ℕ
-  pub stopped : Series level b used given (record { code = r .code; number = 0; used = 0 }) left
+  pub stopped : Series b used given (record { code = r .code; number = 0; used = 0 }) left
   pub some : ¬ (r .code ≡ 0)
   pub zeros : r ≡ refusal (r .code) 0
   pub untouched : a ≡ b
@@ -83,9 +83,9 @@ pub record IsTaken (t : List ℕ) (level : ℕ) (b : List ℕ) (used : ℕ) (r :
   pub accepted : Accepted (meshCodes t b used)
   pub given : List Given
   pub passed : ℕ
-  pub said : Said t given passed
+  pub said : Said t level given passed
   pub answer : r ≡ record { code = 0; number = 0; used = used + 80 * length given; appended = length given; passed = passed }
-  pub done : Series level b used given (record { code = 0; number = 0; used = r .used }) a
+  pub done : Series b used given (record { code = 0; number = 0; used = r .used }) a
 
 abbrev pub Tries : List ℕ → ℕ → List ℕ → ℕ → Meshed → List ℕ → Type 0
 Tries t level b used r a = NotTaken t level b used r a ⊎ IsTaken t level b used r a

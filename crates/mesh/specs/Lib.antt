@@ -1,3 +1,3 @@
--- What a pass over the elements of a text keeps, and what the call `append_mesh` answers and leaves.
-pub mod Tallies
+-- What is taken of a text, and what the call `append_mesh` answers and leaves.
+pub mod Taken
 pub mod Calls

@@ -1,11 +1,9 @@
 // The elements of a text that is good, into a buffer that has a good block.
 use crate::Meshed;
-use crate::Tally;
-use crate::bytes::copy;
 use crate::pass::gather;
 use crate::refuse;
-use append::lowest_id;
-use endian::put_u32;
+use batch::Tally;
+use batch::begin;
 use mesh_nodes::find::seat;
 use mesh_nodes::want::want;
 ghost use mathlib.Core.Path.{_≡_};
@@ -14,28 +12,8 @@ ghost use lib.ListN.{length, take};
 ghost use Rattle.element.specs.Refusals.{Accepted};
 ghost use Rattle.endian.specs.Numbers.{bytes, over};
 ghost use Rattle.block.specs.Block.{countOf};
-ghost use Rattle.append.specs.Append.{bufferCodes};
 ghost use Rattle.mesh_nodes.specs.Nodes.{Seats};
-ghost use Rattle.mesh.specs.Tallies.{opening};
 ghost use Rattle.mesh.specs.Calls.{meshCodes, Tries};
-
-// The tally of a pass that begins behind the block in the first n bytes.
-fn begin(buffer: &[u8], n: usize, count: u32) -> Tally
-    requires good { ⌜ Accepted (bufferCodes (now buffer) n) ⌝ }
-    requires counted { ⌜ count ≡ countOf (take n (now buffer)) ⌝ }
-    ensures { λ r. ⌜ r ≡ opening (now (buffer .entry)) n ⌝ }
-{
-    let low = lowest_id(&buffer[..n], count);
-    let room = buffer.len() - n;
-    Tally {
-        code: 0,
-        low,
-        count,
-        room,
-        taken: 0,
-        passed: 0,
-    }
-}
 
 // Writes the records behind the block, and the count.
 fn finish(buffer: &mut [u8], used: u64, s: Tally, out: &[u8]) -> Meshed
@@ -43,17 +21,13 @@ fn finish(buffer: &mut [u8], used: u64, s: Tally, out: &[u8]) -> Meshed
     ensures written { λ _. ⌜ now (buffer .exit) ≡ over (over (now (buffer .entry)) used (take (80 * s .taken) (now (out .entry)))) 5 (bytes 4 (s .count)) ⌝ }
     ensures answer { λ r. ⌜ r ≡ record { code = 0; number = 0; used = used + 80 * s .taken; appended = s .taken; passed = s .passed } ⌝ }
 {
-    let n = used as usize;
     let taken = s.taken;
     let passed = s.passed;
-    let count = s.count;
-    let m = 80 * (taken as usize);
-    copy(buffer, n, &out[..m]);
-    put_u32(buffer, 5, count);
+    let up = batch::finish(buffer, used, s, out);
     Meshed {
         code: 0,
         number: 0,
-        used: used + (m as u64),
+        used: up,
         appended: taken,
         passed,
     }

@@ -1,5 +1,4 @@
 // The call `append_mesh`.
-mod bytes;
 mod fill;
 mod pass;
 mod texts;
@@ -14,17 +13,6 @@ pub struct Meshed {
     pub number: u32,
     pub used: u64,
     pub appended: u32,
-    pub passed: u64,
-}
-
-// What a pass has met: the code of the first refusal, the least id that may follow, how many records the block has with those
-// taken, the bytes behind them, how many were taken, and how many were passed over.
-pub struct Tally {
-    pub code: u8,
-    pub low: u64,
-    pub count: u32,
-    pub room: usize,
-    pub taken: u32,
     pub passed: u64,
 }
 

@@ -10,7 +10,8 @@ use Prim.Native.Nat.{ℕ}
 use Rattle.mesh_text.specs.Tests.{valueOf, wholeB, zeroB}
 use Rattle.mesh_text.proofs.Rows.{by-test}
 use Rattle.mesh_text.proofs.Grammar.{and-both, and-of, whole-true, whole-of, zero-true, zero-of}
-use Rattle.mesh_form.specs.Mesh.{Row, Node, Element, Pairs, no-pairs, pair, NodeRow, node-row, Form}
+use Rattle.mesh_text.specs.Rows.{Pairs, no-pairs, pair}
+use Rattle.mesh_form.specs.Mesh.{Row, Node, Element, NodeRow, node-row, Form}
 use Rattle.mesh_nodes.specs.Nodes.{flatB, flatsB, nodesIn}
 use Rattle.mesh_elements.specs.Takings.{Flat, NotFlat}
 use Rattle.mesh_elements.proofs.Rows.{form-nodes}

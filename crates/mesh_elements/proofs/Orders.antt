@@ -2,6 +2,7 @@
 --   by-type        : the three types that are ours
 --   order-six, order-nine, order-eight : their orders
 --   order-length, order-within, order-small : as many as the kind has nodes, each one of them; and one of nine
+--   gmsh-length    : Gmsh's picture of a type has as many places as its elements have nodes
 --   order-places   : the node that is taken for ours stands at the place of ours
 --   order-only     : and no other order has that
 -- Assumes nothing.
@@ -91,6 +92,29 @@ order-small k j n = omega (arith, order-within k j n, size-small k)
 -- ---- by their places; a place past the list's end is one that no node has
 abbrev pub placed : ℕ → List ℕ → List Place
 placed k js = map (λ j. getD (gmshPlaces k) j (at 3 3)) js
+
+Sized : ℕ → Type 0
+Sized k = length (gmshPlaces k) ≡ sizeOfType k
+
+six-sized : Sized 9
+unfolding Sized gmshPlaces sizeOfType
+six-sized = refl
+
+nine-sized : Sized 10
+unfolding Sized gmshPlaces sizeOfType
+nine-sized = refl
+
+eight-sized : Sized 16
+unfolding Sized gmshPlaces sizeOfType
+eight-sized = refl
+
+pub gmsh-length : (k : ℕ) → ¬ (sizeOfType k ≡ 0) → length (gmshPlaces k) ≡ sizeOfType k
+unfolding Sized
+gmsh-length k n =
+    by-type k (length (gmshPlaces k) ≡ sizeOfType k) n
+    (λ e. subst Sized (sym e) six-sized)
+    (λ e. subst Sized (sym e) nine-sized)
+    (λ e. subst Sized (sym e) eight-sized)
 
 Places : ℕ → Type 0
 Places k = placed k (order k) ≡ ourPlaces (sizeOfType k)

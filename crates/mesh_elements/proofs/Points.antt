@@ -22,7 +22,8 @@ use Rattle.mesh_text.specs.Words.{WholeValue}
 use Rattle.mesh_text.specs.Tests.{valueOf}
 use Rattle.mesh_text.proofs.Rows.{by-test}
 use Rattle.mesh_text.proofs.Grammar.{whole-of}
-use Rattle.mesh_form.specs.Mesh.{Row, Node, Pairs, no-pairs, pair, NodeRow, ElementRow, numbersOf}
+use Rattle.mesh_text.specs.Rows.{Pairs, no-pairs, pair}
+use Rattle.mesh_form.specs.Mesh.{Row, Node, NodeRow, ElementRow, numbersOf}
 use Rattle.mesh_form.specs.Values.{word, idOf, typeOf, namesOf, elementOf, sizeOfType, nine, wantedOf}
 use Rattle.mesh_form.proofs.Said.{node-is, size-small, wanted-is}
 use Rattle.mesh_nodes.specs.Nodes.{rowOf}

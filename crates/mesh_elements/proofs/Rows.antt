@@ -7,8 +7,8 @@
 use mathlib.Core.Path.{_≡_, refl, sym, ap, _∙_, subst}
 use mathlib.Core.List.{List, _∷_, map, map-map}
 use Prim.Native.Nat.{ℕ, _<_}
-use Rattle.mesh_text.specs.Rows.{All, none, both}
-use Rattle.mesh_form.specs.Mesh.{Row, Node, Element, Pairs, no-pairs, pair, NodeRow, ElementRow, element-row, Form, numbersOf}
+use Rattle.mesh_text.specs.Rows.{All, none, both, Pairs, no-pairs, pair}
+use Rattle.mesh_form.specs.Mesh.{Row, Node, Element, NodeRow, ElementRow, element-row, Form, numbersOf}
 use Rattle.mesh_form.specs.Walk.{Item, nodeRows, elementRows}
 use Rattle.mesh_form.specs.Values.{idOf, nodeOf, elementOf}
 use Rattle.mesh_form.proofs.Told.{form-told}

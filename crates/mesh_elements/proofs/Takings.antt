@@ -14,12 +14,12 @@ use lib.Dec.{eqb}
 use lib.IntN.{ℤ}
 use lib.ListN.{length}
 use Rattle.append.specs.Series.{Given, IdsFit}
-use Rattle.mesh_text.specs.Rows.{All, none, both}
+use Rattle.mesh_text.specs.Rows.{All, none, both, Pairs}
 use Rattle.mesh_text.specs.Words.{WholeValue}
 use Rattle.mesh_text.specs.Tests.{valueOf}
 use Rattle.mesh_text.proofs.Rows.{by-test}
 use Rattle.mesh_text.proofs.Grammar.{whole-of}
-use Rattle.mesh_form.specs.Mesh.{Row, Node, Element, Pairs, NodeRow, ElementRow, Form, Repeats, here, later, numbersOf}
+use Rattle.mesh_form.specs.Mesh.{Row, Node, Element, NodeRow, ElementRow, Form, Repeats, here, later, numbersOf}
 use Rattle.mesh_form.specs.Values.{typeOf, namesOf, elementOf, sizeOfType}
 use Rattle.mesh_nodes.specs.Nodes.{nodesIn}
 use Rattle.mesh_numbers.specs.Numbers.{Unlisted}
@@ -34,38 +34,38 @@ unlisted-later : (ns : List Node) {es : List Element} (e : Element) → Unlisted
 unlisted-later ns e w =
     record { element = w .element; number = w .number; given = List·Memᴰ·tail (w .given); ours = w .ours; wants = w .wants; absent = w .absent }
 
-takings-same : {ns : List Node} {es : List Element} {gs hs : List Given} {p q : ℕ}
+takings-same : {level : ℕ} {ns : List Node} {es : List Element} {gs hs : List Given} {p q : ℕ}
     → gs ≡ hs
     → p ≡ q
-    → Takings ns es gs p
-    → Takings ns es hs q
-takings-same {ns} {es} {hs = hs} {p = p} e f w = subst (Takings ns es hs) f (subst (λ l. Takings ns es l p) e w)
+    → Takings level ns es gs p
+    → Takings level ns es hs q
+takings-same {level} {ns} {es} {hs = hs} {p = p} e f w = subst (Takings level ns es hs) f (subst (λ l. Takings level ns es l p) e w)
 
-module _ {rs : List Row} {ns : List Node} (p : Pairs NodeRow rs ns) (f : (n : Node) → List·Memᴰ n ns → Flat n) where
+module _ (level : ℕ) {rs : List Row} {ns : List Node} (p : Pairs NodeRow rs ns) (f : (n : Node) → List·Memᴰ n ns → Flat n) where
   rows-takings : {qs : List Row} → All (λ r. ElementRow r (elementOf r)) qs → ¬ Unlisted ns (map elementOf qs)
-      → Takings ns (map elementOf qs) (givensOf valueOf rs qs) (passedOf qs)
+      → Takings level ns (map elementOf qs) (givensOf level valueOf rs qs) (passedOf qs)
   unfolding givensOf passedOf
   rows-takings none n = nothing
   rows-takings (both {a = r} {l = qs} h a) n =
       let k = sizeOfType (typeOf r) in
-      let gs = givensOf valueOf rs qs in
+      let gs = givensOf level valueOf rs qs in
       let c = passedOf qs in
       let ih = rows-takings a (λ w. n (unlisted-later ns (elementOf r) w)) in
-      by-test (eqb k 0) (Takings ns (map elementOf (r ∷ qs)) (givensOf valueOf rs (r ∷ qs)) (passedOf (r ∷ qs)))
-      (λ e. takings-same (sym (ap (λ b. cond b gs (givenOf valueOf rs r ∷ gs)) e)) (sym (ap (λ b. cond b (suc c) c) e))
+      by-test (eqb k 0) (Takings level ns (map elementOf (r ∷ qs)) (givensOf level valueOf rs (r ∷ qs)) (passedOf (r ∷ qs)))
+      (λ e. takings-same (sym (ap (λ b. cond b gs (givenOf level valueOf rs r ∷ gs)) e)) (sym (ap (λ b. cond b (suc c) c) e))
       (passed (λ o. o (eqb-true k 0 e)) ih))
       (λ e. let o = eqb-false k 0 e in
       let l : (m : ℕ) → List·Memᴰ m (namesOf r) → List·Memᴰ m (numbersOf ns) =
       λ m i. mem-stable m (numbersOf ns) (λ x. n (record { element = elementOf r; number = m; given = List·Memᴰ·head refl; ours = o; wants = i; absent = x })) in
-      takings-same (sym (ap (λ b. cond b gs (givenOf valueOf rs r ∷ gs)) e)) (sym (ap (λ b. cond b (suc c) c) e))
+      takings-same (sym (ap (λ b. cond b gs (givenOf level valueOf rs r ∷ gs)) e)) (sym (ap (λ b. cond b (suc c) c) e))
       (taken o (element-points r h o p f l) ih))
 
-pub takings : {t : List ℕ} {ns : List Node} {es : List Element} → Form t ns es → ¬ NotFlat ns → ¬ Unlisted ns es
-    → Takings ns es (givensOf valueOf (nodesIn t) (elementsIn t)) (passedOf (elementsIn t))
-takings {t} {ns} {es} h f n =
+pub takings : (level : ℕ) {t : List ℕ} {ns : List Node} {es : List Element} → Form t ns es → ¬ NotFlat ns → ¬ Unlisted ns es
+    → Takings level ns es (givensOf level valueOf (nodesIn t) (elementsIn t)) (passedOf (elementsIn t))
+takings level {t} {ns} {es} h f n =
     let e = elements-are h in
-    subst (λ l. Takings ns l (givensOf valueOf (nodesIn t) (elementsIn t)) (passedOf (elementsIn t))) e
-    (rows-takings (form-nodes h) (flats-true h (flats-of h f)) (element-rows h) (λ w. n (subst (Unlisted ns) e w)))
+    subst (λ l. Takings level ns l (givensOf level valueOf (nodesIn t) (elementsIn t)) (passedOf (elementsIn t))) e
+    (rows-takings level (form-nodes h) (flats-true h (flats-of h f)) (element-rows h) (λ w. n (subst (Unlisted ns) e w)))
 
 -- ---- nothing else
 node-once : {a b : Node} {ns : List Node} → ¬ Repeats (numbersOf ns) → a .number ≡ b .number → List·Memᴰ a ns → List·Memᴰ b ns → a ≡ b
@@ -87,15 +87,15 @@ points-unique o (point {x = x} {y = y} {xs = xs} a p) (point {x = u} {y = v} b q
     ∙ ap (λ z. u ∷ z ∷ xs) (whole-unique (a .y-is) (b .y-is) (ap (λ n. n .y) e))
     ∙ ap (λ l. u ∷ v ∷ l) (points-unique o p q)
 
-pub takings-unique : {ns : List Node} {es : List Element} {gs hs : List Given} {p q : ℕ} → ¬ Repeats (numbersOf ns)
-    → Takings ns es gs p
-    → Takings ns es hs q
+pub takings-unique : {level : ℕ} {ns : List Node} {es : List Element} {gs hs : List Given} {p q : ℕ} → ¬ Repeats (numbersOf ns)
+    → Takings level ns es gs p
+    → Takings level ns es hs q
     → (gs ≡ hs) × (p ≡ q)
 takings-unique o nothing nothing = (refl, refl)
-takings-unique o (taken {e = e} {gs = gs} h a v) (taken {xs = xs} k b w) =
+takings-unique {level} o (taken {e = e} {gs = gs} h a v) (taken {xs = xs} k b w) =
     let u = takings-unique o v w in (
-      ap (λ l. record { id = e .number; kind = sizeOfType (e .type); coords = l } ∷ gs) (points-unique o a b)
-          ∙ ap (λ l. record { id = e .number; kind = sizeOfType (e .type); coords = xs } ∷ l) (u .0),
+      ap (λ l. record { id = e .number; kind = sizeOfType (e .type); limit = level; coords = l } ∷ gs) (points-unique o a b)
+          ∙ ap (λ l. record { id = e .number; kind = sizeOfType (e .type); limit = level; coords = xs } ∷ l) (u .0),
       u .1,
     )
 takings-unique o (taken h a v) (passed k w) = absurd (k h)
@@ -103,14 +103,14 @@ takings-unique o (passed h v) (taken k b w) = absurd (h k)
 takings-unique o (passed h v) (passed k w) = let u = takings-unique o v w in (u .0, ap suc (u .1))
 
 -- ---- how large, how many
-pub takings-fit : {ns : List Node} {es : List Element} {gs : List Given} {p : ℕ} → Takings ns es gs p
+pub takings-fit : {level : ℕ} {ns : List Node} {es : List Element} {gs : List Given} {p : ℕ} → Takings level ns es gs p
     → All (λ e. e .number < 4294967296) es
     → IdsFit gs
 takings-fit nothing none = tt
 takings-fit (taken h a w) (both l k) = (l, takings-fit w k)
 takings-fit (passed h w) (both l k) = takings-fit w k
 
-pub takings-count : {ns : List Node} {es : List Element} {gs : List Given} {p : ℕ} → Takings ns es gs p → length gs + p ≡ length es
+pub takings-count : {level : ℕ} {ns : List Node} {es : List Element} {gs : List Given} {p : ℕ} → Takings level ns es gs p → length gs + p ≡ length es
 takings-count nothing = refl
 takings-count (taken h a w) = let i = takings-count w in omega arith
 takings-count (passed h w) = let i = takings-count w in omega arith

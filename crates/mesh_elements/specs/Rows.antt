@@ -1,9 +1,10 @@
 -- The same, straight from the rows of a text. That they are what Takings says is proved in proofs/.
 --   nameOf r k       == the number of our node k in an element's row
 --   coordOf v rs r i == its coordinate i, x of our first node first; v reads a word, rs are the node rows
---   coordsOf v rs r, givenOf v rs r == all of them; what is taken of the row
---   givensOf v rs qs, passedOf qs == what is taken of the rows qs, and how many are passed over
+--   coordsOf v rs r, givenOf level v rs r == all of them; what is taken of the row
+--   givensOf level v rs qs, passedOf qs == what is taken of the rows qs, and how many are passed over
 --   elementsIn t     == the element rows of a text
+-- level is the level limit of all that is taken.
 -- Definitions only.
 use mathlib.Core.Bool.{cond}
 use mathlib.Core.List.{List, [], _∷_}
@@ -28,12 +29,12 @@ coordOf v rs r i = v (word (rowOf (nameOf r (i / 2)) rs) (1 + i % 2))
 abbrev pub coordsOf : (List ℕ → ℤ) → List Row → Row → List ℤ
 coordsOf v rs r = listTo (2 * sizeOfType (typeOf r)) (coordOf v rs r)
 
-abbrev pub givenOf : (List ℕ → ℤ) → List Row → Row → Given
-givenOf v rs r = record { id = idOf r; kind = sizeOfType (typeOf r); coords = coordsOf v rs r }
+abbrev pub givenOf : ℕ → (List ℕ → ℤ) → List Row → Row → Given
+givenOf level v rs r = record { id = idOf r; kind = sizeOfType (typeOf r); limit = level; coords = coordsOf v rs r }
 
-unfoldable pub givensOf : (List ℕ → ℤ) → List Row → List Row → List Given
-givensOf v rs [] = []
-givensOf v rs (r ∷ qs) = cond (eqb (sizeOfType (typeOf r)) 0) (givensOf v rs qs) (givenOf v rs r ∷ givensOf v rs qs)
+unfoldable pub givensOf : ℕ → (List ℕ → ℤ) → List Row → List Row → List Given
+givensOf level v rs [] = []
+givensOf level v rs (r ∷ qs) = cond (eqb (sizeOfType (typeOf r)) 0) (givensOf level v rs qs) (givenOf level v rs r ∷ givensOf level v rs qs)
 
 unfoldable pub passedOf : List Row → ℕ
 passedOf [] = 0

@@ -4,8 +4,8 @@
 --   NotFlat ns       == code 14: some node is not flat; code 15 is `Unlisted` of mesh_numbers
 --   At ns n x y      == the node of number n stands at x, y
 --   Points ns ms xs  == xs are the coordinates of the nodes of numbers ms, in turn
---   Takings ns es gs p == gs are what is taken of es, in order; p of es are of other types, and are passed over
--- Given is what a call of `append_record` is given: id, kind and coordinates.
+--   Takings level ns es gs p == gs are what is taken of es, in order, each with this level limit; p of es are of other types, and are passed over
+-- Given is what a call of `append_record` is given: id, kind, level limit and coordinates.
 -- Definitions only.
 use mathlib.Core.Path.{_≡_}
 use mathlib.Core.List.{List, [], _∷_, List·Memᴰ}
@@ -45,11 +45,11 @@ pub data Points (ns : List Node) : List ℕ → List ℤ → Type 0 where
   point : {n : ℕ} {x y : ℤ} {ms : List ℕ} {xs : List ℤ} → At ns n x y → Points ns ms xs → Points ns (n ∷ ms) (x ∷ y ∷ xs)
 
 -- "Element numbers become ids"; the kind is the number of nodes
-pub data Takings (ns : List Node) : List Element → List Given → ℕ → Type 0 where
-  nothing : Takings ns [] [] 0
+pub data Takings (level : ℕ) (ns : List Node) : List Element → List Given → ℕ → Type 0 where
+  nothing : Takings level ns [] [] 0
   taken : {e : Element} {es : List Element} {gs : List Given} {p : ℕ} {xs : List ℤ}
       → Ours e
       → Points ns (reordered (e .type) (e .nodes)) xs
-      → Takings ns es gs p
-      → Takings ns (e ∷ es) (record { id = e .number; kind = sizeOfType (e .type); coords = xs } ∷ gs) p
-  passed : {e : Element} {es : List Element} {gs : List Given} {p : ℕ} → ¬ Ours e → Takings ns es gs p → Takings ns (e ∷ es) gs (suc p)
+      → Takings level ns es gs p
+      → Takings level ns (e ∷ es) (record { id = e .number; kind = sizeOfType (e .type); limit = level; coords = xs } ∷ gs) p
+  passed : {e : Element} {es : List Element} {gs : List Given} {p : ℕ} → ¬ Ours e → Takings level ns es gs p → Takings level ns (e ∷ es) gs (suc p)

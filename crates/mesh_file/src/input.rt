@@ -1,49 +1,10 @@
 // Standard input as one text. It is read into a room of a megabyte first, so that a usual text needs no more than the usual stack, and
 // only one that fills it into the room of 64 MB, with one byte more that tells a longer text.
 use crate::answer::answer;
-ghost use Prim.Native.Nat.{_+_, _≤_};
+use streams::input::Filled;
+use streams::input::fill;
+ghost use Prim.Native.Nat.{_≤_};
 ghost use lib.ListN.{length};
-
-// How many bytes of a room are filled, and whether no read failed.
-struct Filled {
-    ok: bool,
-    have: usize,
-}
-
-// One read: what it answered, and how many bytes came.
-struct Came {
-    got: isize,
-    bytes: usize,
-}
-
-// Reads once, behind the first bytes of a room.
-fn read_once(room: &mut [u8], have: usize) -> Came
-    requires { ⌜ have ≤ length (now room) ⌝ }
-    ensures { λ r. ⌜ have + r .bytes ≤ length (now (room .entry)) ⌝ }
-{
-    let free = &mut room[have..];
-    let got = libc::read(0, free);
-    let bytes = io::count(got, free);
-    Came { got, bytes }
-}
-
-// Reads behind the first bytes of a room until it is full or the input ends.
-fn fill(room: &mut [u8], from: usize) -> Filled
-    requires { ⌜ from ≤ length (now room) ⌝ }
-{
-    let mut have = from;
-    while have < room.len() {
-        let came = read_once(room, have);
-        if came.bytes == 0 {
-            return Filled {
-                ok: came.got == 0,
-                have,
-            };
-        }
-        have += came.bytes;
-    }
-    Filled { ok: true, have }
-}
 
 // Copies the first bytes of a text into a room, and answers how many.
 fn copy_in(first: &[u8], room: &mut [u8]) -> usize

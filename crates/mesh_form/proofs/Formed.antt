@@ -12,12 +12,12 @@ use native.Mathlib.Omega.{arith}
 use borrow.Author.Tests.{ltb-true}
 use lib.Dec.{ltb}
 use lib.ListN.{length, length-append}
-use Rattle.mesh_text.specs.Rows.{All, none, both, first, rest, isNil, rows}
+use Rattle.mesh_text.specs.Rows.{All, none, both, first, rest, isNil, rows, Pairs, no-pairs, pair}
 use Rattle.mesh_text.specs.Words.{Number}
 use Rattle.mesh_text.specs.Tests.{sameB, numberOf}
 use Rattle.mesh_text.proofs.Rows.{by-test}
 use Rattle.mesh_text.proofs.Grammar.{and-both, and-of, same-true, number-true}
-use Rattle.mesh_form.specs.Mesh.{Row, mark, ended, format, nodes, elements, Node, Element, Pairs, no-pairs, pair, FormatRow, NodeRow, ElementRow, counted, Other, Form}
+use Rattle.mesh_form.specs.Mesh.{Row, mark, ended, format, nodes, elements, Node, Element, FormatRow, NodeRow, ElementRow, counted, Other, Form}
 use Rattle.mesh_form.specs.Told.{Told, over, format-section, nodes-section, elements-section, other-section}
 use Rattle.mesh_form.specs.Walk.{State, outside, before-format, behind-format, before-count, within, passing, bad, Item, step, itemsAt, final, items, opened, markB, endB, formatB, nodeB, elementB, named, nameOf, allB, doneB, formB}
 use Rattle.mesh_form.proofs.Steps.{opened-format, opened-nodes, opened-elements, opened-other}

@@ -11,12 +11,12 @@ use native.Mathlib.Omega.{arith}
 use borrow.Author.Tests.{eqb-true, eqb-false, eq-eqb, ne-eqb, ltb-true, lt-ltb}
 use lib.Dec.{eqb, ltb}
 use lib.ListN.{length}
-use Rattle.mesh_text.specs.Rows.{All, none, both, first, rest, isNil}
+use Rattle.mesh_text.specs.Rows.{All, none, both, first, rest, isNil, Pairs, no-pairs, pair}
 use Rattle.mesh_text.specs.Words.{Number, IsTag}
 use Rattle.mesh_text.specs.Tests.{tagB, numberB, numberOf, mantissaB, unsigned}
 use Rattle.mesh_text.proofs.Rows.{by-test}
 use Rattle.mesh_text.proofs.Grammar.{and-both, and-of, number-of, number-true, tag-of, tag-true, is-number-of, is-number-true}
-use Rattle.mesh_form.specs.Mesh.{Row, Node, Element, Pairs, no-pairs, pair, Counts, NodeRow, node-row, NodeCount, ElementRow, element-row}
+use Rattle.mesh_form.specs.Mesh.{Row, Node, Element, Counts, NodeRow, node-row, NodeCount, ElementRow, element-row}
 use Rattle.mesh_form.specs.Walk.{positiveB, nodeB, countB, wordB, leftB, elementB}
 use Rattle.mesh_form.proofs.Marks.{none-is}
 

@@ -19,11 +19,11 @@ use borrow.Author.Tests.{eqb-true}
 use lib.Dec.{eqb}
 use lib.ListN.{length, set, take, drop, replicate, length-take, length-append}
 use lib.Seq.{take-at, drop-at, take-all, append-snoc, take-suc-set, drop-nil, drop-drop, take-take}
-use Rattle.mesh_text.specs.Rows.{first, rest, isNil}
+use Rattle.mesh_text.specs.Rows.{first, rest, isNil, Pairs, no-pairs, pair}
 use Rattle.mesh_text.specs.Tests.{numberOf}
 use Rattle.mesh_text.proofs.Rows.{by-test}
 use Rattle.mesh_text.proofs.Grammar.{number-of}
-use Rattle.mesh_form.specs.Mesh.{Row, Node, Element, Pairs, no-pairs, pair, Counts, NodeRow, node-row, NodeCount, ElementRow, element-row}
+use Rattle.mesh_form.specs.Mesh.{Row, Node, Element, Counts, NodeRow, node-row, NodeCount, ElementRow, element-row}
 use Rattle.mesh_form.specs.Values.{word, idOf, typeOf, tagsOf, namesOf, nodeOf, elementOf, sizeOfType, nine, wantedOf}
 use Rattle.mesh_form.proofs.Marks.{none-is}
 

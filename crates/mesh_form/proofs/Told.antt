@@ -10,12 +10,12 @@ use mathlib.Core.Logic.{⊎-elim}
 use Prim.Native.Nat.{ℕ}
 use lib.ListN.{getD}
 use Rattle.mesh_text.specs.declared.Class.the-variants.{Digit}
-use Rattle.mesh_text.specs.Rows.{none, both, first, rest, isNil, inClass, rows}
+use Rattle.mesh_text.specs.Rows.{none, both, first, rest, isNil, inClass, rows, Pairs, no-pairs, pair}
 use Rattle.mesh_text.specs.Words.{Digits, digits}
 use Rattle.mesh_text.specs.Tests.{sameB}
 use Rattle.mesh_text.proofs.Rows.{by-test}
 use Rattle.mesh_text.proofs.Grammar.{same-true}
-use Rattle.mesh_form.specs.Mesh.{Row, mark, ended, format, nodes, elements, Node, Element, Pairs, no-pairs, pair, FormatRow, format-row, NodeRow, node-row, ElementRow, element-row, Counted, counted, Section, Sections, no-sections, section, Other, FormatFirst, at-once, after-other, FormatBody, format-body, Formats, Gathered, nothing, this, that, Form}
+use Rattle.mesh_form.specs.Mesh.{Row, mark, ended, format, nodes, elements, Node, Element, FormatRow, format-row, NodeRow, node-row, ElementRow, element-row, Counted, counted, Section, Sections, no-sections, section, Other, FormatFirst, at-once, after-other, FormatBody, format-body, Formats, Gathered, nothing, this, that, Form}
 use Rattle.mesh_form.specs.Told.{Told, over, format-section, nodes-section, elements-section, other-section}
 use Rattle.mesh_form.proofs.Marks.{false-other}
 

@@ -12,12 +12,12 @@ use lib.Dec.{ltb}
 use borrow.Author.Tests.{lt-ltb}
 use lib.ListN.{length, drop}
 use lib.Seq.{drop-at}
-use Rattle.mesh_text.specs.Rows.{first, rest}
+use Rattle.mesh_text.specs.Rows.{first, rest, Pairs, no-pairs, pair}
 use Rattle.text.specs.Writing.{reads}
 use Rattle.mesh_text.specs.Words.{Number}
 use Rattle.mesh_text.proofs.Rows.{by-test}
 use Rattle.mesh_text.proofs.Grammar.{number-of}
-use Rattle.mesh_form.specs.Mesh.{Row, mark, ended, format, nodes, elements, Node, Element, Pairs, no-pairs, pair, Counts, NodeRow, node-row, ElementRow, element-row, counted, Form, Mesh}
+use Rattle.mesh_form.specs.Mesh.{Row, mark, ended, format, nodes, elements, Node, Element, Counts, NodeRow, node-row, ElementRow, element-row, counted, Form, Mesh}
 use Rattle.mesh_form.specs.Told.{Told, over, format-section, nodes-section, elements-section, other-section}
 use Rattle.mesh_form.specs.Walk.{State, outside, before-format, behind-format, before-count, within, passing, bad, Item, step, itemsAt, final, items, opened, markB, endB}
 use Rattle.mesh_form.proofs.Steps.{opened-other}

@@ -3,7 +3,6 @@
 --   mark x, ended x == the row of the one word $x, and of the one word $Endx
 --   format, nodes, elements == the names of the three sections that are read
 --   Node, Element  == what a row of the one and of the other says; coordinates as they are written
---   Pairs P ls ms  == P of each of ls and each of ms in turn
 --   Counts w n     == the word w is the whole number n, above 0
 --   FormatRow r, NodeRow r n, ElementRow r e == G8; G12; G13 to G15
 --   Counted P b xs == b is a row of one number and then so many rows, P of each and each of xs in turn
@@ -25,7 +24,7 @@ use mathlib.Core.List.{List, [], _∷_, _++_, map, List·Memᴰ}
 use Prim.Native.Nat.{ℕ, _<_}
 use lib.ListN.{length}
 use Rattle.mesh_text.specs.declared.Class.the-variants.{Zero}
-use Rattle.mesh_text.specs.Rows.{All, inClass, rows}
+use Rattle.mesh_text.specs.Rows.{All, Pairs, inClass, rows}
 use Rattle.mesh_text.specs.Words.{Number, IsTag, IsNumber}
 
 abbrev pub Row : Type 0
@@ -59,10 +58,6 @@ pub record Element : Type 0 where
   pub number : ℕ
   pub type : ℕ
   pub nodes : List ℕ
-
-pub data Pairs {A B : Type 0} (P : A → B → Type 0) : List A → List B → Type 0 where
-  no-pairs : Pairs P [] []
-  pair : {a : A} {b : B} {l : List A} {m : List B} → P a b → Pairs P l m → Pairs P (a ∷ l) (b ∷ m)
 
 -- ---- what a row says
 -- G11: a number above 0

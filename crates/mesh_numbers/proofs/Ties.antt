@@ -11,10 +11,10 @@ use mathlib.Core.Logic.{⊎-elim}
 use Prim.Native.Nat.{ℕ, _<_}
 use borrow.Author.Tests.{eqb-true, eqb-false, ne-eqb}
 use lib.Dec.{eqb}
-use Rattle.mesh_text.specs.Rows.{All, none, both}
+use Rattle.mesh_text.specs.Rows.{All, none, both, Pairs, no-pairs, pair}
 use Rattle.mesh_text.proofs.Rows.{by-test}
 use Rattle.mesh_text.proofs.Grammar.{number-of}
-use Rattle.mesh_form.specs.Mesh.{Row, Node, Element, Pairs, no-pairs, pair, Counts, node-row, ElementRow, element-row, Form, RepeatsIn, here, later, Repeats, numbersOf}
+use Rattle.mesh_form.specs.Mesh.{Row, Node, Element, Counts, node-row, ElementRow, element-row, Form, RepeatsIn, here, later, Repeats, numbersOf}
 use Rattle.mesh_form.specs.Values.{sizeOfType, wantedOf}
 use Rattle.mesh_form.specs.Walk.{Item}
 use Rattle.mesh_form.proofs.Said.{wanted-is, wanted-none}

@@ -6,6 +6,7 @@
 --   tag-true, tag-of, is-number-true, is-number-of : tags, and decimal numbers
 --   whole-true, whole-of : whole coordinates with their value
 --   zero-true, zero-of : those that are 0
+--   whole-number   : a whole coordinate is a decimal number
 -- Assumes nothing.
 use mathlib.Core.Path.{_≡_, refl, sym, ap, _∙_, subst}
 use mathlib.Core.Bool.{Bool, true, false, _&&_, _||_, cond, true≢false, or-false}
@@ -22,7 +23,7 @@ use Rattle.mesh_text.specs.Rows.{All, none, both, Heads, empty, head, ru
 use Rattle.mesh_text.specs.Words.{Digits, digits, Number, Sign, unsigned, plus, minus, IsTag, tag, Mantissa, whole, pointed, broken, started, Exponent, plain, small-e, large-e, IsNumber, isNumber, Point, no-point, zeros, Plain, parted, WholeValue, as-is, with-plus, with-minus}
 use Rattle.mesh_text.specs.Tests.{sameB, digitsB, numberOf, tagB, exponentB, mantissaB, numberB, pointB, wholeB, isMinus, sizeOf, signedBy, valueOf, zeroB, unsigned as unsign}
 use Rattle.mesh_text.proofs.Runs.{run-past}
-use Rattle.mesh_text.proofs.Rows.{by-test, run-on, run-off, past-on, past-off, run-all}
+use Rattle.mesh_text.proofs.Rows.{all-map, by-test, run-on, run-off, past-on, past-off, run-all}
 use Rattle.mesh_text.proofs.Firsts.{nil-of}
 
 -- ---- tests
@@ -359,3 +360,17 @@ pub zero-of : (w : List ℕ) → WholeValue w (pos 0) → zeroB w ≡ true
 unfolding zeroB valueOf
 zero-of w h =
     let t = whole-of h in and-of (wholeB w) _ (t .0) (eq-eqb (sizeOf w) 0 (zero-signed (isMinus w) (sizeOf w) (t .1)))
+
+-- ---- a whole coordinate is a decimal number
+zero-digit : (c : ℕ) → inClass Zero c ≡ true → inClass Digit c ≡ true
+unfolding inClass
+zero-digit c e = rw (eqb-true c 48 e) refl
+
+plain-mantissa : {w : List ℕ} {n : ℕ} → Plain w n → Mantissa w
+plain-mantissa (parted {d = d} h no-point) = rw (append-nil d) (whole h)
+plain-mantissa (parted h (zeros k)) = broken h (digits (all-map zero-digit k))
+
+pub whole-number : {w : List ℕ} {z : ℤ} → WholeValue w z → IsNumber w
+whole-number (as-is {w = w} p) = subst IsNumber (append-nil w) (isNumber unsigned (plain-mantissa p) plain)
+whole-number (with-plus {w = w} p) = subst IsNumber (ap (λ v. 43 ∷ v) (append-nil w)) (isNumber plus (plain-mantissa p) plain)
+whole-number (with-minus {w = w} p) = subst IsNumber (ap (λ v. 45 ∷ v) (append-nil w)) (isNumber minus (plain-mantissa p) plain)

@@ -4,3 +4,4 @@ pub mod Reading
 pub mod Firsts
 pub mod Grammar
 pub mod Shut
+pub mod Clip

@@ -2,6 +2,7 @@
 --   isBlank b, isEnd b == a space, a tab or a carriage return; a line feed
 --   parts p t      == the parts of t between the bytes of which p is true: one more than there are such bytes
 --   All P l, Heads P l == P of each of l; P of the first of l, if there is one
+--   Pairs P l m    == P of each of l and each of m in turn
 --   filled ls      == those of the lists that are not []
 --   lines t        == the parts of t between the line feeds
 --   words l        == the non-empty parts of l between blanks
@@ -30,6 +31,10 @@ pub data All {A : Type 0} (P : A → Type 0) : List A → Type 0 where
 pub data Heads {A : Type 0} (P : A → Type 0) : List A → Type 0 where
   empty : Heads P []
   head : {a : A} {l : List A} → P a → Heads P (a ∷ l)
+
+pub data Pairs {A B : Type 0} (P : A → B → Type 0) : List A → List B → Type 0 where
+  no-pairs : Pairs P [] []
+  pair : {a : A} {b : B} {l : List A} {m : List B} → P a b → Pairs P l m → Pairs P (a ∷ l) (b ∷ m)
 
 abbrev pub first : {A : Type 0} → List (List A) → List A
 first [] = []

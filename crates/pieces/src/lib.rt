@@ -2,8 +2,11 @@
 use points::coord;
 use text::read::hex;
 use text::read::next;
+use text::read::number;
 use text::read::word_end;
 use text::write;
+ghost use Prim.Native.Nat.{_≤_};
+ghost use lib.ListN.{length};
 
 // The answer to a line that is no call.
 pub fn unknown(out: &mut [u8]) -> usize {
@@ -18,6 +21,48 @@ pub fn last_word(line: &[u8], at: usize, bytes: &mut [u8]) -> usize {
         return bytes.len() + 1;
     }
     hex(line, at, end, bytes)
+}
+
+// What a call on a buffer and a text is asked: the bytes of the buffer that are used, and how many bytes the buffer and the text have.
+// Not ok where one of the three is missing, is no number of 64 bits, or is not all hex or too long.
+pub struct Handed {
+    pub ok: bool,
+    pub used: u64,
+    pub buffer: usize,
+    pub text: usize,
+}
+
+// Reads `USED HEXBUFFER HEXTEXT`, the last words of a line.
+pub fn buffer_and_text(line: &[u8], from: usize, buffer: &mut [u8], text: &mut [u8]) -> Handed
+    ensures buffered { λ r. ⌜ r .buffer ≤ length (now (buffer .entry)) ⌝ }
+    ensures written { λ r. ⌜ r .text ≤ length (now (text .entry)) ⌝ }
+{
+    let used = number(line, from);
+    let at = used.next;
+    let end = word_end(line, at);
+    let n = hex(line, at, end, buffer);
+    let m = last_word(line, next(line, end), text);
+    let bad = Handed {
+        ok: false,
+        used: 0,
+        buffer: 0,
+        text: 0,
+    };
+    if used.negative | !used.ok {
+        return bad;
+    }
+    if buffer.len() < n {
+        return bad;
+    }
+    if text.len() < m {
+        return bad;
+    }
+    Handed {
+        ok: true,
+        used: used.size,
+        buffer: n,
+        text: m,
+    }
 }
 
 // Numbers, each with a space before it.

@@ -1,46 +1,23 @@
 -- `mesh::fill::finish` meets its contract.
-use mathlib.Core.Path.{refl, sym, ap, _∙_}
-use Prim.Native.Nat.{_*_}
-use native.Mathlib.Omega.{arith}
-use lib.Seq.{length-take-le}
-use Rattle.endian.specs.Numbers.{bytes, over}
+use mathlib.Core.Path.{_≡_, ap}
+use Prim.Native.Nat.{ℕ}
+use Rattle.mesh.specs.declared.Meshed.{Meshed}
 use borrow.Author.Needs.{needs}
 use Rattle.mesh.proofs.fill.finish.Statement.{statement}
 use Rattle.mesh.proofs.fill.finish.Tie as tie
 
-cast-m : tie.Need-cast-m
-cast-m c = search needs
+same-answer : {u v n p : ℕ} → u ≡ v
+    → _≡_ {A = Meshed} (record { code = 0; number = 0; used = u; appended = n; passed = p }) (record { code = 0; number = 0; used = v; appended = n; passed = p })
+same-answer {n = n} {p = p} e = ap (λ x. record { code = 0; number = 0; used = x; appended = n; passed = p }) e
 
-mul-m : tie.Need-mul-m
-mul-m c = search needs
-
-slice-aggregate-copy : tie.Need-slice-aggregate-copy
-slice-aggregate-copy c = let a = c .before .before .before .before in sym (length-take-le (80 * a .args .s .taken) (a .args .out .now) (a .pre .0))
-
-copy-requires : tie.Need-copy-requires
-copy-requires c κs = let a = c .before .before .before .before in omega (arith, a .pre .1, length-take-le (80 * a .args .s .taken) (a .args .out .now) (a .pre .0))
-
-put-u32-requires : tie.Need-put-u32-requires
-put-u32-requires c κs = search needs
-
-add-t19 : tie.Need-add-t19
-add-t19 c = search needs
+finish-requires : tie.Need-finish-requires
+finish-requires c κs = search needs
 
 same-length : tie.Need-same-length
 same-length c = search needs
 
 returns : tie.Need-returns
-returns c = (c .before .before .put-u32 .ensures ∙ ap (λ l. over l 5 (bytes 4 (c .before .before .before .before .before .before .before .before .before .before .before .args .s .count))) (c .before .before .before .before .before .before .copy .ensures), refl)
+returns c = let f = c .before .before .finish .ensures in (f .0, same-answer (f .1))
 
 pub finish-spec : {M : Type 1} → statement M
-finish-spec =
-    tie.close
-    (tie.spec
-    cast-m
-    mul-m
-    slice-aggregate-copy
-    copy-requires
-    put-u32-requires
-    add-t19
-    same-length
-    returns)
+finish-spec = tie.close (tie.spec finish-requires same-length returns)

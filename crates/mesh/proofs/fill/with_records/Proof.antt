@@ -2,7 +2,7 @@
 use mathlib.Core.Path.{sym}
 use Prim.Native.Nat.{ℕ}
 use lib.ListN.{length-replicate}
-use Rattle.mesh.proofs.Opened.{zeros-long}
+use Rattle.batch.proofs.Opened.{zeros-long}
 use Rattle.mesh.proofs.fill.with_records.Statement.{statement}
 use Rattle.mesh.proofs.fill.with_records.Tie as tie
 

@@ -3,12 +3,15 @@ use mathlib.Core.Path.{ap, subst}
 use mathlib.Core.Logic.{inl, inr}
 use native.Mathlib.Omega.{arith}
 use Rattle.endian.specs.Numbers.{Bytes}
-use Rattle.mesh.specs.declared.Tally.{Tally}
-use Rattle.mesh.specs.Tallies.{takenIn, passedIn, Moves}
-use Rattle.mesh.proofs.Tallies.{moves-halted, moves-moved}
+use Rattle.batch.specs.declared.Tally.{Tally}
+use Rattle.batch.specs.Tallies.{Moves}
+use Rattle.batch.proofs.Opened.{block-size, block-few}
+use Rattle.batch.proofs.Tallies.{moves-halted, moves-moved}
+use Rattle.batch.proofs.Runs.{room-is, long-is}
+use Rattle.mesh.specs.Taken.{takenIn, passedIn}
 use Rattle.mesh.proofs.Readings.{once-of, fits-of}
-use Rattle.mesh.proofs.Opened.{block-size, block-few, text-accepted, buffer-accepted}
-use Rattle.mesh.proofs.Loads.{not-taken, is-taken, room-is, long-is}
+use Rattle.mesh.proofs.Opened.{text-accepted, buffer-accepted}
+use Rattle.mesh.proofs.Loads.{not-taken, is-taken}
 use borrow.Author.Needs.{needs}
 use Rattle.mesh.proofs.fill.write_all.Statement.{statement}
 use Rattle.mesh.proofs.fill.write_all.Tie as tie
@@ -57,7 +60,7 @@ returns c =
     let b = a .args .buffer .now in
     let y : Bytes b = record { each = λ k. omega (arith, c .before .before .before .before .before .before .before .before .before .before .slice-known .given k) } in
     let g = c .before .before .before .before .before in
-    let w = subst (λ z. Moves (a .args .limit) (takenIn t) (passedIn t) z (a .args .out .now) (g .gather .result) (g .gather .last .1 .1 .1 .1 .1 .0)) (c .before .before .before .before .before .before .before .begin .ensures) (g .gather .ensures) in
+    let w = subst (λ z. Moves (takenIn (a .args .limit) t) (passedIn t) z (a .args .out .now) (g .gather .result) (g .gather .last .1 .1 .1 .1 .1 .0)) (c .before .before .before .before .before .before .before .begin .ensures) (g .gather .ensures) in
     inl (not-taken t (a .args .limit) b (a .args .used) y (a .pre .0) (g .gather .result) (c .refuse .result) _ _ (moves-halted w (c .before .if1 .taken)) (c .refuse .ensures))
 
 finish-requires : tie.Need-finish-requires
@@ -65,13 +68,12 @@ finish-requires c κs =
     let a = c .before .before .before .before .before .before .before .before .before .before .before .before .before .before .before in
     let t = a .args .t .now in
     let b = a .args .buffer .now in
-    let y : Bytes b = record { each = λ k. omega (arith, c .before .before .before .before .before .before .before .before .before .before .before .slice-known .given k) } in
     let g = c .before .before .before .before .before .before in
-    let w = subst (λ z. Moves (a .args .limit) (takenIn t) (passedIn t) z (a .args .out .now) (g .gather .result) (g .gather .last .1 .1 .1 .1 .1 .0)) (c .before .before .before .before .before .before .before .before .begin .ensures) (g .gather .ensures) in
+    let w = subst (λ z. Moves (takenIn (a .args .limit) t) (passedIn t) z (a .args .out .now) (g .gather .result) (g .gather .last .1 .1 .1 .1 .1 .0)) (c .before .before .before .before .before .before .before .before .begin .ensures) (g .gather .ensures) in
     let m = moves-moved w (c .before .before .if1 .left) in
-    let r = room-is t (a .args .limit) b (a .args .used) y (a .pre .0) m in
-    let q = block-size b (a .args .used) (buffer-accepted t b (a .args .used) (a .pre .0)) in
-    (long-is t (a .args .limit) b (a .args .used) y (a .pre .0) m (a .pre .1 .1 .1), r, omega (arith, r, q))
+    let k = buffer-accepted t b (a .args .used) (a .pre .0) in
+    let r = room-is b (a .args .used) k m in
+    (long-is b (a .args .used) k m (a .pre .1 .1 .1), r, omega (arith, r, block-size b (a .args .used) k))
 
 same-length-3 : tie.Need-same-length-3
 same-length-3 c = search needs
@@ -86,10 +88,10 @@ returns-2 c =
     let b = a .args .buffer .now in
     let y : Bytes b = record { each = λ k. omega (arith, c .before .before .before .before .before .before .before .before .before .before .before .before .before .before .slice-known .given k) } in
     let g = c .before .before .before .before .before .before .before .before .before in
-    let w = subst (λ z. Moves (a .args .limit) (takenIn t) (passedIn t) z (a .args .out .now) (g .gather .result) (g .gather .last .1 .1 .1 .1 .1 .0)) (c .before .before .before .before .before .before .before .before .before .before .before .begin .ensures) (g .gather .ensures) in
+    let w = subst (λ z. Moves (takenIn (a .args .limit) t) (passedIn t) z (a .args .out .now) (g .gather .result) (g .gather .last .1 .1 .1 .1 .1 .0)) (c .before .before .before .before .before .before .before .before .before .before .before .begin .ensures) (g .gather .ensures) in
     let m = moves-moved w (c .before .before .before .before .before .if1 .left) in
     let f = c .before .before .finish .ensures in
-    inr (is-taken t (a .args .limit) b (a .args .used) y (a .pre .0) m (c .before .before .finish .result) _ (f .0) (f .1))
+    inr (is-taken t (a .args .limit) b (a .args .used) y (a .pre .0) (c .before .before .finish .result) _ m (f .0) (f .1))
 
 pub write-all-spec : {M : Type 1} → statement M
 write-all-spec =

@@ -4,7 +4,7 @@ use Prim.Native.Nat.{_+_, _*_, _-_}
 use native.Mathlib.Omega.{arith}
 use lib.ListN.{length}
 use Rattle.mesh_form.proofs.Answers.{reads-fewer}
-use Rattle.mesh.proofs.Tallies.{moved-length, moves-halted, moves-moved}
+use Rattle.batch.proofs.Tallies.{moved-length, moves-halted, moves-moved}
 use Rattle.mesh.proofs.Gathers.{Fresh, Keeps, keeps-start, keeps-room, keeps-fit, keeps-next, keeps-halted, keeps-end}
 use Rattle.mesh.proofs.pass.gather.Statement.{statement}
 use Rattle.mesh.proofs.pass.gather.Tie as tie
@@ -37,7 +37,7 @@ take-row-requires c κs =
           (λ e. keeps-fit (a .args .limit) (a .args .t .now) (a .args .first) (a .args .out .now) h k e),
           (
             omega (arith, m .counted, m .carried .count-is, h .0),
-            (omega (arith, h .2, moved-length (a .args .limit) m (keeps-room (a .args .limit) (a .args .t .now) (a .args .first) (a .args .out .now) h k)), (m .clean, omega (arith, k .few, k .reads .not-back, k .reads .inside, a .pre .1))),
+            (omega (arith, h .2, moved-length m (keeps-room (a .args .limit) (a .args .t .now) (a .args .first) (a .args .out .now) h k)), (m .clean, omega (arith, k .few, k .reads .not-back, k .reads .inside, a .pre .1))),
           ),
         ),
       ),
@@ -77,7 +77,7 @@ same-length-2 c =
     let d = c .before .before in
     let a = d .before .before .before .before .before .before in
     let h : Fresh (a .args .first) (a .args .out .now) = (a .pre .1 .1 .1 .0 .1, a .pre .1 .1 .1 .0 .3, a .pre .1 .1 .1 .1) in
-    moved-length (a .args .limit) (d .loop .inv .moved) (keeps-room (a .args .limit) (a .args .t .now) (a .args .first) (a .args .out .now) h (d .loop .inv))
+    moved-length (d .loop .inv .moved) (keeps-room (a .args .limit) (a .args .t .now) (a .args .first) (a .args .out .now) h (d .loop .inv))
 
 returns-2 : tie.Need-returns-2 Inv-loop μ-loop
 returns-2 c =

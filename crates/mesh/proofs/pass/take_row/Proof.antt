@@ -1,11 +1,10 @@
 -- `mesh::pass::take_row` meets its contract, by the kind and the type.
 use mathlib.Core.Path.{sym, ap, _∙_}
-use Prim.Native.Nat.{_-_}
 use lib.ListN.{drop}
 use Rattle.mesh_text.specs.Rows.{line}
 use Rattle.mesh_form.specs.Values.{sizeOfType}
 use Rattle.mesh_nodes.specs.Nodes.{nodesIn}
-use Rattle.mesh.proofs.Tallies.{moved-none, moved-passed}
+use Rattle.batch.proofs.Tallies.{moved-none, moved-passed}
 use Rattle.mesh.proofs.Gathers.{row-other, row-passed, row-taken}
 use borrow.Author.Needs.{needs}
 use Rattle.mesh.proofs.pass.take_row.Statement.{statement}
@@ -15,7 +14,7 @@ returns : tie.Need-returns
 returns c =
     let a = c .before .before .before .before .before in
     row-other (a .args .limit) (nodesIn (a .args .t .now)) (line (drop (a .args .at) (a .args .t .now))) (a .args .s) (a .args .s) _ _ (a .args .kind) (c .if1 .taken)
-    (moved-none (a .args .limit) (a .args .s) _ (a .pre .1 .1 .1 .1 .1 .0))
+    (moved-none (a .args .s) _ (a .pre .1 .1 .1 .1 .1 .0))
 
 type-at-requires : tie.Need-type-at-requires
 type-at-requires c κs = search needs
@@ -32,7 +31,7 @@ returns-2 c =
     let d = c .before .before in
     row-passed (a .args .limit) (nodesIn (a .args .t .now)) (line (drop (a .args .at) (a .args .t .now))) (a .args .s) (c .one-passed .result) _ _ (a .args .kind) (c .before .before .before .before .if1 .left)
     (sym (ap sizeOfType (d .before .type-at .ensures)) ∙ sym (d .size-of .ensures) ∙ c .before .if2 .taken)
-    (moved-passed (a .args .limit) (a .args .s) (c .one-passed .result) _ (a .pre .1 .1 .1 .1 .1 .0) (c .one-passed .ensures))
+    (moved-passed (a .args .s) (c .one-passed .result) _ (a .pre .1 .1 .1 .1 .1 .0) (c .one-passed .ensures))
 
 take-ours-requires : tie.Need-take-ours-requires
 take-ours-requires c κs =

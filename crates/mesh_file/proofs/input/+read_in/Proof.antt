@@ -8,7 +8,7 @@ use borrow.Fn.PlainCycle.{Measures, is, falls, and}
 use Rattle.mesh_file.proofs.input.read_in.Reads as read-in
 use Rattle.mesh_file.proofs.input.read_in.Kinds as read-in-kinds
 use Rattle.mesh_file.proofs.input.+read_in.Lts-read_in as read-in-lts
-use Rattle.mesh_file.proofs.input.fill.Reads as fill-reads
+use Rattle.streams.proofs.input.fill.Reads as fill-reads
 use Rattle.mesh_file.proofs.input.in_large.Reads as in-large-reads
 use Rattle.mesh_file.proofs.input.settle.Reads as settle-reads
 use Rattle.mesh_file.proofs.input.+read_in.{statement}
