@@ -79,7 +79,7 @@ pub fn pick(p: &[i64; 9], k: usize) -> i64
 }
 
 // The difference from the point a to the point b, along one coordinate.
-fn step(p: &[i64; 9], a: usize, b: usize) -> i64
+pub fn step(p: &[i64; 9], a: usize, b: usize) -> i64
     requires { ⌜ spec.Nine 393216 (now p) ⌝ }
     ensures { λ r. ⌜ r ≡ spec.step (now (p .entry)) a b ⌝ }
 {
@@ -87,7 +87,7 @@ fn step(p: &[i64; 9], a: usize, b: usize) -> i64
 }
 
 // The determinant of two vectors, (a, b) and (c, d).
-fn det(a: i64, b: i64, c: i64, d: i64) -> i64
+pub fn det(a: i64, b: i64, c: i64, d: i64) -> i64
     requires { ⌜ Each 786432 (a ∷ b ∷ c ∷ d ∷ []) ⌝ }
     ensures { λ r. ⌜ r ≡ a *ℤ d -ℤ b *ℤ c ⌝ }
 {

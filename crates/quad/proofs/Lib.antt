@@ -1,4 +1,6 @@
-pub mod Choose
-pub mod Formula
+pub mod Binomials
 pub mod Points
-pub mod Sums
+pub mod Terms
+pub mod Nest
+pub mod Turns
+pub mod Formula

@@ -7,18 +7,21 @@
 --   centre n b        == the fourfold control point 11
 --   points9 n b       == the nine fourfold control points
 --   grid u v i j      == the point ij, from the points u along x and v along y
---   part u v I J i1 j2 == the terms of value (I, J) with these i1 and j2
---   combine9 u v      == the control values
+--   vec v             == the code's vector v, as a vector of the plane
+--   sums9 u v         == the sums of relation 27, (I, J) at I + 4J
+--   combine9 u v      == the control values, in the same places
 -- Definitions only.
 use mathlib.Core.Bool.{Bool, cond}
 use mathlib.Core.List.{List, [], _∷_}
-use Prim.Native.Nat.{ℕ, _+_, _*_, _/_, _%_}
+use Prim.Native.Nat.{ℕ, _+_, _*_}
 use lib.IntN.{ℤ, pos, _+ℤ_, _-ℤ_, _*ℤ_}
-use Rattle.algebra.specs.Fill.{listTo}
+use Rattle.forms.specs.Quads.{sixteen}
 use Rattle.element.specs.Kinds.{Kind, eight, nine}
-use Rattle.element.specs.Plane.{Vec, sum}
-use Rattle.element.specs.Control.{at, term, value}
+use Rattle.element.specs.Plane.{Vec}
+use Rattle.element.specs.Control.{at, value}
+use Rattle.element.specs.Paper.{relation27}
 use Rattle.points.specs.Points.{point}
+use Rattle.quad.specs.declared.sum.Vector.{Vector}
 
 abbrev pub quadKind : Bool → Kind
 quadKind b = cond b eight nine
@@ -48,8 +51,12 @@ points9 n b =
 abbrev pub grid : List ℤ → List ℤ → ℕ → ℕ → Vec
 grid u v i j = point u v (i + 3 * j)
 
-abbrev pub part : List ℤ → List ℤ → ℕ → ℕ → ℕ → ℕ → ℤ
-part u v I J i1 j2 = sum 3 (λ i2. sum 3 (λ j1. term (grid u v) I J i1 i2 j1 j2))
+abbrev pub vec : Vector → Vec
+vec v = record { x = v .x; y = v .y }
+
+-- "Place in the list: I + 4J"
+abbrev pub sums9 : List ℤ → List ℤ → List ℤ
+sums9 u v = sixteen (relation27 (grid u v))
 
 abbrev pub combine9 : List ℤ → List ℤ → List ℤ
-combine9 u v = listTo 16 (λ k. value (grid u v) (k % 4) (k / 4))
+combine9 u v = sixteen (value (grid u v))

@@ -1,13 +1,12 @@
-// Control values of a quad: value (I, J) is 9/(C(3,I)·C(3,J)) times the sum of C(2,i2)·C(2,j1)·det(α(i1,j1), β(i2,j2)).
+// Control values of a quad: its fourfold control points, and from them the values by the sum in sum.rt.
 // Nodes and control points stand in rows: ij at i + 3j.
-use points::across;
+mod sum;
+
+use crate::sum::combine;
 use points::coordinates;
 use points::pick;
 ghost use mathlib.Core.Path.{_≡_};
-ghost use Prim.Native.Nat.{_*_, _/_, _≤_};
-ghost use lib.IntN.{pos};
-ghost use Rattle.algebra.specs.Within.{Within, Each};
-ghost use Rattle.forms.specs.Binomials.{choose};
+ghost use Rattle.algebra.specs.Within.{Each};
 ghost use Rattle.element.specs.Control as control;
 ghost use Rattle.points.specs.Points.{Nine};
 ghost use Rattle.quad.specs.Points as spec;
@@ -72,99 +71,6 @@ fn points9(n: &[i64; 9], eight: bool) -> [i64; 9]
         above,
         4 * n[8],
     ]
-}
-
-// C(2, k).
-fn choose2(k: usize) -> i64
-    requires { ⌜ k ≤ 2 ⌝ }
-    ensures { λ r. ⌜ r ≡ pos (choose 2 k) ⌝ }
-{
-    if k == 1 {
-        return 2;
-    }
-    1
-}
-
-// C(3, k).
-fn choose3(k: usize) -> u64
-    requires { ⌜ k ≤ 3 ⌝ }
-    ensures { λ r. ⌜ r ≡ choose 3 k ⌝ }
-{
-    if k == 0 {
-        return 1;
-    }
-    if k == 3 {
-        return 1;
-    }
-    3
-}
-
-// What value (i, j) multiplies its sum by.
-fn weight(i: usize, j: usize) -> i64
-    requires { ⌜ (i ≤ 3) × (j ≤ 3) ⌝ }
-    ensures { λ r. ⌜ r ≡ pos (9 / (choose 3 i * choose 3 j)) ⌝ }
-{
-    (9 / (choose3(i) * choose3(j))) as i64
-}
-
-// Those terms of value (i, j) that have these i1 and j2: one, or none.
-fn part(x: &[i64; 9], y: &[i64; 9], i: usize, j: usize, i1: usize, j2: usize) -> i64
-    requires first { ⌜ Nine 393216 (now x) ⌝ }
-    requires second { ⌜ Nine 393216 (now y) ⌝ }
-    requires places { ⌜ (i1 ≤ 1) × (j2 ≤ 1) ⌝ }
-    ensures sum { λ r. ⌜ r ≡ spec.part (now (x .entry)) (now (y .entry)) i j i1 j2 ⌝ }
-    ensures small { λ r. ⌜ Within 4947802324992 r ⌝ }
-{
-    if i < i1 {
-        return 0;
-    }
-    if i1 + 2 < i {
-        return 0;
-    }
-    if j < j2 {
-        return 0;
-    }
-    if j2 + 2 < j {
-        return 0;
-    }
-    let i2 = i - i1;
-    let j1 = j - j2;
-    let d = across(
-        x,
-        y,
-        i1 + 3 * j1,
-        i1 + 1 + 3 * j1,
-        i2 + 3 * j2,
-        i2 + 3 * (j2 + 1),
-    );
-    choose2(i2) * choose2(j1) * d
-}
-
-// The value (i, j), from the points along x and along y.
-fn value(x: &[i64; 9], y: &[i64; 9], i: usize, j: usize) -> i64
-    requires first { ⌜ Nine 393216 (now x) ⌝ }
-    requires second { ⌜ Nine 393216 (now y) ⌝ }
-    requires places { ⌜ (i ≤ 3) × (j ≤ 3) ⌝ }
-    ensures { λ r. ⌜ r ≡ control.value (spec.grid (now (x .entry)) (now (y .entry))) i j ⌝ }
-{
-    let low = part(x, y, i, j, 0, 0) + part(x, y, i, j, 0, 1);
-    let high = part(x, y, i, j, 1, 0) + part(x, y, i, j, 1, 1);
-    weight(i, j) * (low + high)
-}
-
-// The sixteen values, (I, J) at I + 4J.
-fn combine(x: &[i64; 9], y: &[i64; 9]) -> [i64; 16]
-    requires first { ⌜ Nine 393216 (now x) ⌝ }
-    requires second { ⌜ Nine 393216 (now y) ⌝ }
-    ensures { λ r. ⌜ r ≡ spec.combine9 (now (x .entry)) (now (y .entry)) ⌝ }
-{
-    let mut c = [0; 16];
-    let mut k = 0;
-    while k < 16 {
-        c[k] = value(x, y, k % 4, k / 4);
-        k += 1;
-    }
-    c
 }
 
 // The sixteen control values of a quad with eight nodes, or nine.

@@ -15,7 +15,7 @@ use Rattle.quad.proofs.values.Tie as tie
 use Rattle.quad.proofs.values.Reads as reads
 use Rattle.quad.proofs.values.Lts as lts
 use Rattle.points.proofs.coordinates.Reads as coordinates-reads
-use Rattle.quad.proofs.combine.Reads as combine-reads
+use Rattle.quad.proofs.sum.combine.Reads as combine-reads
 use Rattle.quad.proofs.gap.Reads as gap-reads
 use Rattle.quad.proofs.points9.Reads as points9-reads
 
