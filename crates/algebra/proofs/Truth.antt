@@ -1,6 +1,7 @@
 -- Tests that compute, taken apart and put together.
 --   T-and, and-T   : both of a conjunction hold, and the other way round
 --   T-or           : by cases on a disjunction
+--   and-true, and-assoc : a conjunction with what holds, and of three
 --   T-true, true-T : a test that holds is true; T-false, false-T, false-not: one that does not is false
 --   cond-ind       : by cases on what a test picks
 -- Assumes nothing.
@@ -19,6 +20,14 @@ and-T false b s t = absurd s
 pub T-or {ℓ} : (a b : Bool) (X : Type ℓ) → (T a → X) → (T b → X) → T (a || b) → X
 T-or true b X f g t = f tt
 T-or false b X f g t = g t
+
+pub and-true : (b : Bool) → b && true ≡ b
+and-true true = refl
+and-true false = refl
+
+pub and-assoc : (a b c : Bool) → a && (b && c) ≡ (a && b) && c
+and-assoc true b c = refl
+and-assoc false b c = refl
 
 pub T-true : (b : Bool) → T b → b ≡ true
 T-true true t = refl

@@ -13,7 +13,8 @@ use native.Mathlib.Omega.{arith}
 use lib.IntN.{ℤ, pos, _+ℤ_, _*ℤ_, +ℤ-assoc, +ℤ-comm}
 use lib.ListN.{getD, length, take}
 use lib.Signed.{leZ, ltZ}
-use Rattle.algebra.specs.Within.{Within, Each, Is}
+use Rattle.algebra.specs.Within.{Is}
+use Rattle.algebra.proofs.Truth.{and-true, and-assoc}
 use Rattle.algebra.proofs.Within.{within-pos, within-*, within-≤}
 use Rattle.forms.specs.Rows.{Row, total, weigh}
 use Rattle.forms.specs.Cells.{positives, nonNegatives}
@@ -41,35 +42,22 @@ weight-part k [] = zero-le
 weight-part zero (x ∷ r) = omega arith
 weight-part (suc k) (x ∷ r) = omega (arith, weight-part k r)
 
-and-true : (b : Bool) → b && true ≡ b
-and-true true = refl
-and-true false = refl
+-- the test of three corners and of four, as the code groups it
+three-and : (a b d : Bool) → (a && b) && d ≡ a && (b && (d && true))
+three-and a b d = sym (and-assoc a b d) ∙ ap (λ x. a && (b && x)) (sym (and-true d))
 
-and-assoc : (a b d : Bool) → a && (b && d) ≡ (a && b) && d
-and-assoc true b d = refl
-and-assoc false b d = refl
-
--- the sign test of three corners and of four, as the code groups it
-three-and : (a b d n : Bool) → ((a && b) && d) && n ≡ (a && (b && (d && true))) && n
-three-and true true true n = refl
-three-and true true false n = refl
-three-and true false d n = refl
-three-and false b d n = refl
-
-four-and : (a b d e n : Bool) → (((a && b) && d) && e) && n ≡ (a && (b && (d && (e && true)))) && n
-four-and true b d e n = three-and b d e n
-four-and false b d e n = refl
+four-and : (a b d e : Bool) → ((a && b) && d) && e ≡ a && (b && (d && (e && true)))
+four-and true b d e = three-and b d e
+four-and false b d e = refl
 
 abbrev above : List ℤ → ℕ → Bool
 above c k = ltZ (pos 0) (getD c k (pos 0))
 
-pub three-test : (c : List ℤ) (i j k : ℕ) (n : Bool)
-    → ((above c i && above c j) && above c k) && n ≡ positives (i ∷ j ∷ k ∷ []) c && n
-three-test c i j k n = three-and (above c i) (above c j) (above c k) n
+pub three-test : (c : List ℤ) (i j k : ℕ) → (above c i && above c j) && above c k ≡ positives (i ∷ j ∷ k ∷ []) c
+three-test c i j k = three-and (above c i) (above c j) (above c k)
 
-pub four-test : (c : List ℤ) (i j k l : ℕ) (n : Bool)
-    → (((above c i && above c j) && above c k) && above c l) && n ≡ positives (i ∷ j ∷ k ∷ l ∷ []) c && n
-four-test c i j k l n = four-and (above c i) (above c j) (above c k) (above c l) n
+pub four-test : (c : List ℤ) (i j k l : ℕ) → ((above c i && above c j) && above c k) && above c l ≡ positives (i ∷ j ∷ k ∷ l ∷ []) c
+four-test c i j k l = four-and (above c i) (above c j) (above c k) (above c l)
 
 pub nonNegatives-more : (c : List ℤ) (k : ℕ) → k < length c
     → nonNegatives (take (suc k) c) ≡ nonNegatives (take k c) && leZ (pos 0) (getD c k (pos 0))

@@ -3,6 +3,7 @@
 --   table-of    : the one of a quarter, and what its rows add up to
 --   row-room    : there is room for a sum by a row of a table whose rows add up to g
 --   row-value   : a sum by row k of the table of a quarter is value k of the quarter
+--   last-quarter : which quarter is left after the first three
 --   quarter-of  : as many values as the quarter has, filled in one after the other, are the quarter
 -- Each once, for every shape and its tables. Assumes nothing.
 use mathlib.Core.Path.{_≡_, refl, sym, _∙_, ap}
@@ -38,6 +39,12 @@ table-of S W i h = let e = go i h in (e, rw e (four-at (λ q. rowsAdd (S .growth
     go (suc (suc zero)) h = refl
     go (suc (suc (suc zero))) h = refl
     go (suc (suc (suc (suc i)))) h = absurd (omega arith)
+
+pub last-quarter : (i : ℕ) → ¬ (i ≡ 0) → ¬ (i ≡ 1) → ¬ (i ≡ 2) → fourOf i ≡ fourth
+last-quarter zero f g h = absurd (f refl)
+last-quarter (suc zero) f g h = absurd (g refl)
+last-quarter (suc (suc zero)) f g h = absurd (h refl)
+last-quarter (suc (suc (suc i))) f g h = refl
 
 pub row-room : (g m : ℕ) (t : List Row) (k : ℕ) (c : List ℤ) → T (rowsAdd g t) → length (getD t k []) ≤ length c → Each m c → g * m < 2 ^ 63
     → Room (getD t k []) c

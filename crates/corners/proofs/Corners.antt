@@ -1,12 +1,14 @@
 -- What a corner says, from the test that the code makes of its value u, which is the value v; and the first of two bad points, from
--- the test t whether the second is reported sooner.
+-- the tests that the code makes of them, where t is whether the second is reported sooner.
 --   corner-bad, corner-good : a value that is not positive, and a positive one
---   better-second : two bad points of which the second is reported sooner
---   better-first, better-none : else the first, if it is one, and else the second
+--   better-other  : where the first is none, the second
+--   better-second : where both are bad and the second is reported sooner, the second
+--   better-first  : else the first
 -- Assumes nothing.
 use mathlib.Core.Path.{_≡_}
-use mathlib.Core.Bool.{Bool, true, false, _&&_}
+use mathlib.Core.Bool.{Bool, true, false, not, _&&_}
 use Prim.Native.Nat.{ℕ}
+use borrow.Author.Tests.{not-true, not-false}
 use lib.IntN.{ℤ, pos}
 use lib.Signed.{leZ}
 use Rattle.corners.specs.First.{nothing, something, sooner, better, corner}
@@ -20,15 +22,16 @@ pub corner-good : (u v : ℤ) (l i j : ℕ) → u ≡ v → leZ u (pos 0) ≡ fa
 unfolding corner
 corner-good u v l i j e h = rw (← e, h)
 
-module _ (a b : First) {t : Bool} (e : t ≡ sooner b a) where
-  pub better-second : ((a .bad && b .bad) && t) ≡ true → b ≡ better a b
+module _ (a b : First) where
+  pub better-other : not (a .bad) ≡ true → b ≡ better a b
   unfolding better
-  better-second h = rw (← e, h)
+  better-other h = rw (not-true (a .bad) h)
 
-  pub better-first : ((a .bad && b .bad) && t) ≡ false → a .bad ≡ true → a ≡ better a b
-  unfolding better
-  better-first h k = rw (← e, h, k)
+  module _ {t : Bool} (e : t ≡ sooner b a) (h : not (a .bad) ≡ false) where
+    pub better-second : (b .bad && t) ≡ true → b ≡ better a b
+    unfolding better
+    better-second k = rw (← e, not-false (a .bad) h, k)
 
-  pub better-none : ((a .bad && b .bad) && t) ≡ false → a .bad ≡ false → b ≡ better a b
-  unfolding better
-  better-none h k = rw (← e, h, k)
+    pub better-first : (b .bad && t) ≡ false → a ≡ better a b
+    unfolding better
+    better-first k = rw (← e, not-false (a .bad) h, k)

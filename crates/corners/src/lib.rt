@@ -3,12 +3,12 @@
 ghost use mathlib.Core.Path.{_≡_};
 ghost use Rattle.corners.specs.First as first;
 
-// A bad grid point of a level and the scaled J there, or none.
+// A bad grid point of a level and the scaled J there, or none. The four small fields fill two words, so that a copy moves three.
 pub struct First {
-    pub bad: bool,
     pub level: u32,
     pub i: u32,
     pub j: u32,
+    pub bad: bool,
     pub value: i64,
 }
 
@@ -52,11 +52,11 @@ pub fn sooner(a: First, b: First) -> bool
 pub fn better(a: First, b: First) -> First
     ensures { λ r. ⌜ r ≡ first.better a b ⌝ }
 {
-    if a.bad & b.bad & sooner(b, a) {
+    if !a.bad {
         return b;
     }
-    if a.bad {
-        return a;
+    if b.bad & sooner(b, a) {
+        return b;
     }
-    b
+    a
 }

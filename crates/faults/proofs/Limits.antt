@@ -1,9 +1,10 @@
 -- What the tests of a kind tell.
 --   limit-quad, level-quad : what is not a triangle has the limits of quads
 --   each-inside, inside-each : coordinates that are all within a limit are not beyond it, and the other way round
+--   tested        : a test against one limit is one against an equal limit
 --   accepted-each : an accepted element has its coordinates within its limit
 -- Assumes nothing.
-use mathlib.Core.Path.{_≡_, refl, sym}
+use mathlib.Core.Path.{_≡_, refl, subst}
 use mathlib.Core.Bool.{Bool, true, false, cond}
 use mathlib.Core.List.{List}
 use Prim.Native.Nat.{ℕ, _≤_, _<_}
@@ -15,7 +16,7 @@ use lib.IntN.{ℤ, natAbs}
 use lib.ListN.{length}
 use Rattle.algebra.specs.Within.{Each}
 use Rattle.algebra.proofs.Within.{each-of}
-use Rattle.element.specs.Kinds.{six, eight, nine, kindOf, coordinateLimit, greatestLevel}
+use Rattle.element.specs.Kinds.{eight, nine, kindOf, coordinateLimit, greatestLevel}
 use Rattle.element.specs.Control.{at}
 use Rattle.element.specs.Refusals.{Accepted, Beyond, boundsCodes}
 
@@ -35,6 +36,10 @@ level-quad n h = rw (ne-eqb n 6 h) (either (eqb n 8))
 
 pub each-inside : {n : ℕ} {xs : List ℤ} → Each n xs → ¬ Beyond n xs
 each-inside p (i, h, l) = N.not-le-of-lt l (p .at i .size)
+
+pub tested : {b : Bool} {m n : ℕ} {xs : List ℤ} → m ≡ n → (b ≡ true → Each m xs) × (b ≡ false → Beyond m xs)
+    → (b ≡ true → ¬ Beyond n xs) × (b ≡ false → Beyond n xs)
+tested {xs = xs} e t = ((λ h. each-inside (subst (λ (n : ℕ). Each n xs) e (t .0 h))), λ h. subst (λ (n : ℕ). Beyond n xs) e (t .1 h))
 
 pub inside-each : {n : ℕ} {xs : List ℤ} → ¬ Beyond n xs → Each n xs
 inside-each {n} {xs} f = each-of (λ k h. record { size = go k h (decLe (natAbs (at xs k)) n) })

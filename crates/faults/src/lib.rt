@@ -2,8 +2,8 @@
 use points::within;
 ghost use mathlib.Core.Path.{_≡_};
 ghost use mathlib.Core.Bool.{true, false};
-ghost use Rattle.element.specs.Kinds.{NotKind, kindOf, coordinateLimit, greatestLevel};
-ghost use Rattle.element.specs.Refusals.{no-more, Coded, elementCodes, boundsCodes, verdictCodes};
+ghost use Rattle.element.specs.Kinds.{NotKind, kindOf, greatestLevel};
+ghost use Rattle.element.specs.Refusals.{Outside, no-more, Coded, elementCodes, boundsCodes, verdictCodes};
 
 // Whether there is a kind of that many nodes.
 pub fn known(kind: u8) -> bool
@@ -19,14 +19,15 @@ pub fn known(kind: u8) -> bool
     kind == 9
 }
 
-// The coordinate limit of the kind.
-pub fn coordinate_limit(kind: u8) -> u32
-    ensures { λ r. ⌜ r ≡ coordinateLimit (kindOf kind) ⌝ }
+// Whether all coordinates are within the limit of the kind. Each limit stands in a call, so that none is looked up for a coordinate.
+pub fn inside(kind: u8, coords: &[i32]) -> bool
+    ensures yes { λ r. ⌜ (r ≡ true → ¬ Outside (kindOf kind) (now (coords .entry))) ⌝ }
+    ensures no { λ r. ⌜ (r ≡ false → Outside (kindOf kind) (now (coords .entry))) ⌝ }
 {
     if kind == 6 {
-        return 65536;
+        return within(coords, 65536);
     }
-    2048
+    within(coords, 2048)
 }
 
 // The greatest level of the kind.
@@ -46,7 +47,7 @@ pub fn list_code(kind: u8, coords: &[i32]) -> u8
     if coords.len() != 2 * (kind as usize) {
         return 3;
     }
-    if !within(coords, coordinate_limit(kind)) {
+    if !inside(kind, coords) {
         return 4;
     }
     0

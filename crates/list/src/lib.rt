@@ -10,7 +10,7 @@ use verdict::Word;
 use verdict::verdict;
 ghost use mathlib.Core.Path.{_≡_};
 ghost use Prim.Native.Nat.{_*_, min};
-ghost use lib.ListN.{take};
+ghost use lib.ListN.{length, take};
 ghost use Rattle.verdict.specs.Calls.{VerdictOf};
 ghost use Rattle.list.specs.Calls.{WritesList};
 ghost use Rattle.list.specs.Steps.{LineAt, LinesTo, WholeList};
@@ -32,9 +32,10 @@ fn used_numbers(kind: u8) -> usize
     2 * (kind as usize)
 }
 
-// The verdict of a record's element under its own limit.
-pub fn judge(kind: u8, limit: u8, coords: [i32; 18]) -> Judged
-    ensures { λ v. ⌜ VerdictOf kind limit (take (2 * kind) coords) v ⌝ }
+// The verdict of a record's element under its own limit, from the record's 18 numbers.
+pub fn judge(kind: u8, limit: u8, coords: &[i32]) -> Judged
+    requires { ⌜ length (now coords) ≡ 18 ⌝ }
+    ensures { λ v. ⌜ VerdictOf kind limit (take (2 * kind) (now (coords .entry))) v ⌝ }
 {
     let n = used_numbers(kind);
     verdict(kind, limit, &coords[..n])
@@ -45,8 +46,7 @@ fn line_at(out: &mut [u8], at: usize, bytes: &[u8], k: u32) -> usize
     ensures { λ r. ⌜ LineAt (now (bytes .entry)) k (now (out .entry)) at (now (out .exit)) r ⌝ }
 {
     let r = record_at(bytes, k);
-    let coords = r.coords;
-    let v = judge(r.kind, r.limit, coords);
+    let v = judge(r.kind, r.limit, &r.coords);
     verdict_line(out, at, r.id, r.kind, v)
 }
 

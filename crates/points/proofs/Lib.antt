@@ -1,2 +1,3 @@
 pub mod Points
 pub mod Wider
+pub mod Sofar

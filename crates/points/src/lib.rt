@@ -46,25 +46,22 @@ pub fn coordinates(xs: &[i32], gap: usize, axis: usize) -> [i64; 9]
     c
 }
 
-// Whether all coordinates are within the limit in size.
+// Whether all coordinates are within the limit in size, without a branch on a coordinate.
 pub fn within(xs: &[i32], limit: u32) -> bool
+    requires { ⌜ limit < 2147483648 ⌝ }
     ensures yes { λ r. ⌜ (r ≡ true → Each limit (now (xs .entry))) ⌝ }
     ensures no { λ r. ⌜ (r ≡ false → Beyond limit (now (xs .entry))) ⌝ }
 {
-    let most = limit as i64;
+    let most = limit as i32;
     let least = 0 - most;
+    let mut all = true;
     let mut k = 0;
     while k < xs.len() {
-        let x = coord(xs, k);
-        if most < x {
-            return false;
-        }
-        if x < least {
-            return false;
-        }
+        let x = xs[k];
+        all = all & (x <= most) & (least <= x);
         k += 1;
     }
-    true
+    all
 }
 
 // The number at place k; past the end stands 0.

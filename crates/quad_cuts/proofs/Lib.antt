@@ -1,2 +1,3 @@
 -- Laws of the quarters of a quad.
 pub mod Halves
+pub mod Lines

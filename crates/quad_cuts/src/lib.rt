@@ -1,4 +1,6 @@
-// The quarters of a quad cell by a table, its sign test and its first bad corner.
+// The quarters of a quad cell by a table, its sign test and its first bad corner; its halves stand in `by_halves`.
+pub mod by_halves;
+
 use cells::none_negative;
 use cells::weighed;
 use corners::First;
@@ -8,9 +10,9 @@ ghost use mathlib.Core.Path.{_≡_};
 ghost use Prim.Native.Nat.{_+_, _<_};
 ghost use lib.Dec.{T};
 ghost use Rattle.algebra.specs.Within.{Each};
-ghost use Rattle.forms.specs.Cells.{rowsAdd};
+ghost use Rattle.forms.specs.Cells.{positives, rowsAdd};
 ghost use Rattle.forms.specs.Cuttings.{fourOf};
-ghost use Rattle.forms.specs.Shapes.{pass, cutTo};
+ghost use Rattle.forms.specs.Shapes.{tips, pass, cutTo};
 ghost use Rattle.forms.specs.Quads.{quad};
 ghost use Rattle.quad_cuts.specs.Corners.{firstBad};
 
@@ -117,17 +119,24 @@ pub fn quarter(c: [i64; 16], i: u8) -> [i64; 16]
     values
 }
 
-// The sign test, without a branch on a value.
-pub fn passes(c: [i64; 16]) -> bool
-    ensures { λ r. ⌜ r ≡ pass quad c ⌝ }
+// Whether the corner values are all above zero, without a branch on a value.
+pub fn corners_positive(c: &[i64; 16]) -> bool
+    ensures { λ r. ⌜ r ≡ positives (tips quad) (now (c .entry)) ⌝ }
 {
-    (0 < c[0]) & (0 < c[3]) & (0 < c[12]) & (0 < c[15]) & none_negative(&c)
+    (0 < c[0]) & (0 < c[3]) & (0 < c[12]) & (0 < c[15])
+}
+
+// The sign test, without a branch on a value.
+pub fn passes(c: &[i64; 16]) -> bool
+    ensures { λ r. ⌜ r ≡ pass quad (now (c .entry)) ⌝ }
+{
+    corners_positive(c) & none_negative(c)
 }
 
 // The first bad corner of the cell of a level whose lower-left corner is the grid point (i, j); all four fit 32 bits.
-pub fn first_bad(c: [i64; 16], level: u32, i: u32, j: u32) -> First
+pub fn first_bad(c: &[i64; 16], level: u32, i: u32, j: u32) -> First
     requires { ⌜ (i + 1 < 4294967296) × (j + 1 < 4294967296) ⌝ }
-    ensures { λ r. ⌜ r ≡ firstBad c level i j ⌝ }
+    ensures { λ r. ⌜ r ≡ firstBad (now (c .entry)) level i j ⌝ }
 {
     let p = corner(c[0], level, i, j);
     let q = corner(c[3], level, i + 1, j);

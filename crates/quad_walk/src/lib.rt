@@ -1,46 +1,77 @@
 // The walk over the cells of a quad (01: "A quad cell is halved along u and each half along v"). A half is not a cell: it is
-// never tested, and its quarters come from the table.
+// never tested.
 use corners::none_found;
+use quad_cuts::by_halves::half_u;
+use quad_cuts::by_halves::half_v;
+use quad_cuts::corners_positive;
 use quad_cuts::first_bad;
 use quad_cuts::passes;
-use quad_cuts::quarter;
 use steps::Walk;
+use steps::kept;
 use steps::leaf;
 use steps::lowered;
 use steps::merge;
 ghost use mathlib.Core.Path.{_≡_};
-ghost use Prim.Native.Nat.{_+_, _*_, _/_, _<_};
-ghost use Rattle.quad_walk.specs.Walks.{Room, cellWalk, halfWalk};
+ghost use mathlib.Core.Bool.{false};
+ghost use Prim.Native.Nat.{_+_, _*_, _/_};
+ghost use Rattle.forms.specs.Shapes.{pass};
+ghost use Rattle.forms.specs.Quads.{quad};
+ghost use Rattle.steps.specs.Steps as steps;
+ghost use Rattle.walks.specs.Room.{Few};
+ghost use Rattle.quad_walk.specs.Walks.{Room, Halfway, cellWalk, halfWalk};
 
 // The walk of a cell of the level, with its lower left corner at the grid point (i, j): at most `halvings` halvings, two for each
 // level, and none below the level `stop`.
-pub fn walk_u(c: [i64; 16], halvings: u32, level: u32, stop: u32, i: u32, j: u32) -> Walk
-    requires { ⌜ (halvings ≡ 2 * (halvings / 2)) × Room (halvings / 2) level i j c ⌝ }
-    ensures { λ r. ⌜ r ≡ cellWalk (halvings / 2) level stop i j c ⌝ }
+pub fn walk_u(c: &[i64; 16], halvings: u32, level: u32, stop: u32, i: u32, j: u32) -> Walk
+    requires { ⌜ (halvings ≡ 2 * (halvings / 2)) × Room (halvings / 2) level i j (now c) ⌝ }
+    ensures { λ r. ⌜ r ≡ cellWalk (halvings / 2) level stop i j (now (c .entry)) ⌝ }
 {
+    if !passes(c) {
+        return open_u(c, halvings, level, stop, i, j);
+    }
+    leaf(level, none_found(), 0)
+}
+
+// A walk w, and after it that of a cell of the level, to the limit that w leaves. A cell that passes is tested here, without a call.
+fn next(w: Walk, c: &[i64; 16], halvings: u32, level: u32, stop: u32, i: u32, j: u32) -> Walk
+    requires { ⌜ Few 3145728 w × (halvings ≡ 2 * (halvings / 2)) × Room (halvings / 2) level i j (now c) ⌝ }
+    ensures { λ r. ⌜ r ≡ steps.merge w (cellWalk (halvings / 2) level (steps.lowered stop (w .best)) i j (now (c .entry))) ⌝ }
+{
+    let limit = lowered(stop, w);
     if passes(c) {
-        return leaf(level, none_found(), 0);
+        return kept(w, level);
     }
-    let best = first_bad(c, level, i, j);
-    let found = best.bad;
-    if found | (stop <= level) | (halvings == 0) {
-        return leaf(level, best, 1);
+    merge(w, open_u(c, halvings, level, limit, i, j))
+}
+
+// The walk of a cell that does not pass: of its two halves along u.
+fn open_u(c: &[i64; 16], halvings: u32, level: u32, stop: u32, i: u32, j: u32) -> Walk
+    requires { ⌜ (pass quad (now c) ≡ false) × (halvings ≡ 2 * (halvings / 2)) × Room (halvings / 2) level i j (now c) ⌝ }
+    ensures { λ r. ⌜ r ≡ cellWalk (halvings / 2) level stop i j (now (c .entry)) ⌝ }
+{
+    if !corners_positive(c) | (stop <= level) | (halvings == 0) {
+        return leaf(level, first_bad(c, level, i, j), 1);
     }
-    let p = walk_v(c, 0, halvings - 1, level, stop, i, j);
-    let q = walk_v(c, 1, halvings - 1, level, lowered(stop, p), i, j);
+    let left = halvings - 1;
+    let l = level + 1;
+    let x = 2 * i;
+    let y = 2 * j;
+    let low = half_u(c, false);
+    let high = half_u(c, true);
+    let p = walk_v(&low, left, l, stop, x, y);
+    let q = walk_v(&high, left, l, lowered(stop, p), x + 1, y);
     merge(p, q)
 }
 
-// The walk of a half of that cell along u, the lower half if `half` is 0 and the upper one if it is 1: of its two quarters.
-fn walk_v(c: [i64; 16], half: u8, halvings: u32, level: u32, stop: u32, i: u32, j: u32) -> Walk
-    requires { ⌜ (half < 2) × (halvings ≡ 2 * (halvings / 2) + 1) × Room (halvings / 2 + 1) level i j c ⌝ }
-    ensures { λ r. ⌜ r ≡ halfWalk half (halvings / 2) level stop i j c ⌝ }
+// The walk of a half h along u, of its two halves along v: these are quarters, and cells of the level. The lower one has its lower
+// left corner at (i, j).
+fn walk_v(h: &[i64; 16], halvings: u32, level: u32, stop: u32, i: u32, j: u32) -> Walk
+    requires { ⌜ (halvings ≡ 2 * (halvings / 2) + 1) × Halfway (halvings / 2) level i j (now h) ⌝ }
+    ensures { λ r. ⌜ r ≡ halfWalk (halvings / 2) level stop i j (now (h .entry)) ⌝ }
 {
     let left = halvings - 1;
-    let l = level + 1;
-    let x = 2 * i + (half as u32);
-    let y = 2 * j;
-    let p = walk_u(quarter(c, half), left, l, stop, x, y);
-    let q = walk_u(quarter(c, half + 2), left, l, lowered(stop, p), x, y + 1);
-    merge(p, q)
+    let low = half_v(h, false);
+    let high = half_v(h, true);
+    let p = walk_u(&low, left, level, stop, i, j);
+    next(p, &high, left, level, stop, i, j + 1)
 }

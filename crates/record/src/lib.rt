@@ -1,8 +1,8 @@
 // One record of an element block: its 80 bytes are read and tested.
 use endian::get_i32;
 use endian::get_u32;
-use faults::coordinate_limit;
 use faults::greatest_level;
+use faults::inside;
 use faults::known;
 use points::within;
 ghost use mathlib.Core.Path.{_≡_};
@@ -64,6 +64,9 @@ fn unused_zero(coords: [i32; 18], kind: u8) -> bool
     ensures yes { λ r. ⌜ (r ≡ true → Each 0 (drop (2 * kind) coords)) ⌝ }
     ensures no { λ r. ⌜ (r ≡ false → Beyond 0 (drop (2 * kind) coords)) ⌝ }
 {
+    if kind == 6 {
+        return within(&coords[12..], 0);
+    }
     let n = 2 * (kind as usize);
     within(&coords[n..], 0)
 }
@@ -74,8 +77,11 @@ fn used_inside(coords: [i32; 18], kind: u8) -> bool
     ensures yes { λ r. ⌜ (r ≡ true → ¬ Outside (kindOf kind) (take (2 * kind) coords)) ⌝ }
     ensures no { λ r. ⌜ (r ≡ false → Outside (kindOf kind) (take (2 * kind) coords)) ⌝ }
 {
+    if kind == 6 {
+        return inside(kind, &coords[..12]);
+    }
     let n = 2 * (kind as usize);
-    within(&coords[..n], coordinate_limit(kind))
+    inside(kind, &coords[..n])
 }
 
 // The code of the record at a place: 1, 2, 9, 4, 10, or 0; low is the least id that may stand there.

@@ -1,4 +1,4 @@
-// Judges each element of the block on standard input 16 times, and prints the most cells of any: the judge without text, for ./bench.
+// Judges each element of the block on standard input 64 times, and prints the most cells of any: the judge without text, for ./bench.
 use block::check_block;
 use block::record_at;
 use list::judge;
@@ -6,8 +6,7 @@ use list::judge;
 // The cells of record k.
 fn cells(bytes: &[u8], k: u32) -> u32 {
     let r = record_at(bytes, k);
-    let coords = r.coords;
-    let v = judge(r.kind, r.limit, coords);
+    let v = judge(r.kind, r.limit, &r.coords);
     v.cells
 }
 
@@ -30,7 +29,7 @@ fn rounds(bytes: &[u8]) -> u32 {
     let count = c.count;
     let mut most = 0;
     let mut turn: u32 = 0;
-    while turn < 16 {
+    while turn < 64 {
         most = round(bytes, count, most);
         turn += 1;
     }

@@ -2,12 +2,14 @@
 -- cell count").
 --   leaf l f n     == a cell of level l that is kept, with its first bad corner f; n is 1 if it fails and 0 if it passes
 --   merge a b      == two walks as one: the first of their bad points, the deeper level, the counts added
+--   Plain f        == f is a bad point, or none: where it is not bad, no other field says anything
 --   lowered stop f == the limit of what is walked next: nothing deeper than the level of a known bad point is of interest
 -- Definitions only.
-use mathlib.Core.Bool.{cond, _&&_}
+use mathlib.Core.Path.{_≡_}
+use mathlib.Core.Bool.{false, cond, _&&_}
 use Prim.Native.Nat.{ℕ, _+_, max}
 use lib.Dec.{ltb}
-use Rattle.corners.specs.First.{better}
+use Rattle.corners.specs.First.{nothing, better}
 use Rattle.corners.specs.declared.First.{First}
 use Rattle.steps.specs.declared.Walk.{Walk}
 
@@ -25,3 +27,6 @@ merge a b =
 
 abbrev pub lowered : ℕ → First → ℕ
 lowered stop f = cond (f .bad && ltb (f .level) stop) (f .level) stop
+
+abbrev pub Plain : First → Type 0
+Plain f = f .bad ≡ false → f ≡ nothing

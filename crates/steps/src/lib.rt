@@ -3,6 +3,7 @@ use corners::First;
 use corners::better;
 ghost use mathlib.Core.Path.{_≡_};
 ghost use Prim.Native.Nat.{_+_, _<_, max};
+ghost use Rattle.corners.specs.First.{nothing};
 ghost use Rattle.steps.specs.Steps as steps;
 
 // The first bad point known, the deepest level of a cell that was kept, how many cells were kept, and how many of them do not pass.
@@ -62,5 +63,22 @@ pub fn merge(a: Walk, b: Walk) -> Walk
         deep: deep,
         cells: cells,
         failing: failing,
+    }
+}
+
+// A walk, and one cell more that passes: the bad point of the walk stays.
+pub fn kept(w: Walk, level: u32) -> Walk
+    requires cells { ⌜ w .cells + 1 < 4294967296 ⌝ }
+    requires plain { ⌜ steps.Plain (w .best) ⌝ }
+    ensures { λ r. ⌜ r ≡ steps.merge w (steps.leaf level nothing 0) ⌝ }
+{
+    let best = w.best;
+    let deep = deeper(w.deep, level);
+    let cells = w.cells + 1;
+    Walk {
+        best: best,
+        deep: deep,
+        cells: cells,
+        failing: w.failing,
     }
 }

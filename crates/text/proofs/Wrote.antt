@@ -1,7 +1,7 @@
 -- Pieces of text written one behind the other.
---   wrote-none, wrote-byte, wrote-past : nothing; a byte with room; a byte with none
+--   wrote-none, wrote-byte, wrote-past, wrote-short : nothing; a byte with room; a byte with none; a text with none
 --   wrote-more : a piece behind a piece
---   wrote-as   : the same text by another name
+--   wrote-as, wrote-to : the same text, or the same place after it, by another name
 --   take-none  : a text's first no bytes
 -- Assumes nothing.
 use mathlib.Core.Path.{_≡_, refl, sym, _∙_, ap, subst}
@@ -28,6 +28,9 @@ wrote-byte o at b h = record { size = length-set o at b; place = λ k. refl; con
 pub wrote-past : (o : List ℕ) (at b : ℕ) → length o ≤ at → Wrote o at (b ∷ []) o at
 wrote-past o at b h = record { size = refl; place = λ k. absurd (omega arith); content = λ k. absurd (omega arith) }
 
+pub wrote-short : (o : List ℕ) (at : ℕ) (t : List ℕ) → length o < at + length t → Wrote o at t o at
+wrote-short o at t h = record { size = refl; place = λ k. absurd (omega arith); content = λ k. absurd (omega arith) }
+
 pub wrote-more : {o t o′ u o″ : List ℕ} {at p q : ℕ} → Wrote o at t o′ p → Wrote o′ p u o″ q → Wrote o at (t ++ u) o″ q
 wrote-more {o} {t} {o′} {u} {o″} {at} {p} {q} v w =
     let n = length-append t u in
@@ -45,6 +48,9 @@ wrote-more {o} {t} {o′} {u} {o″} {at} {p} {q} v w =
 
 pub wrote-as : {o t u o′ : List ℕ} {at p : ℕ} → Wrote o at t o′ p → t ≡ u → Wrote o at u o′ p
 wrote-as {o} {o′ = o′} {at = at} {p = p} w e = subst (λ l. Wrote o at l o′ p) e w
+
+pub wrote-to : {o t o′ : List ℕ} {at p q : ℕ} → Wrote o at t o′ p → p ≡ q → Wrote o at t o′ q
+wrote-to {o} {t} {o′} {at} w e = subst (λ p. Wrote o at t o′ p) e w
 
 pub take-none : (l : List ℕ) → take 0 l ≡ []
 take-none [] = refl

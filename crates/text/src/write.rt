@@ -16,28 +16,45 @@ pub fn put(out: &mut [u8], at: usize, b: u8) -> usize
     at
 }
 
-// A text.
+// A text: where there is room for all of it, its bytes are written without a test each.
 pub fn word(out: &mut [u8], from: usize, text: &[u8]) -> usize
     ensures { λ r. ⌜ Wrote (now (out .entry)) from (now (text .entry)) (now (out .exit)) r ⌝ }
 {
-    let mut at = from;
+    let n = text.len();
+    if out.len() < n {
+        return from;
+    }
+    if out.len() - n < from {
+        return from;
+    }
     let mut k = 0;
-    while k < text.len() {
-        at = put(out, at, text[k]);
+    while k < n {
+        let at = from + k;
+        out[at] = text[k];
         k += 1;
     }
-    at
+    from + n
 }
 
-// A number in decimal.
+// A number in decimal, digit by digit.
+fn digits(out: &mut [u8], at: usize, n: u64) -> usize
+    ensures { λ r. ⌜ Wrote (now (out .entry)) at (decimal n) (now (out .exit)) r ⌝ }
+{
+    if n < 10 {
+        return put(out, at, 48 + n as u8);
+    }
+    let end = digits(out, at, n / 10);
+    put(out, end, 48 + (n % 10) as u8)
+}
+
+// A number in decimal: one digit, as most numbers have, without a call.
 pub fn natural(out: &mut [u8], at: usize, n: u64) -> usize
     ensures { λ r. ⌜ Wrote (now (out .entry)) at (decimal n) (now (out .exit)) r ⌝ }
 {
     if n < 10 {
         return put(out, at, 48 + n as u8);
     }
-    let end = natural(out, at, n / 10);
-    put(out, end, 48 + (n % 10) as u8)
+    digits(out, at, n)
 }
 
 // The size of a number.

@@ -1,4 +1,6 @@
-// The quarters of a triangle cell, its sign test and its first bad corner.
+// The quarters of a triangle cell by a table, its sign test and its first bad corner; the same quarters by sums stand in `by_sums`.
+pub mod by_sums;
+
 use cells::none_negative;
 use cells::weighed;
 use corners::First;
@@ -8,9 +10,9 @@ ghost use mathlib.Core.Path.{_≡_};
 ghost use Prim.Native.Nat.{_<_};
 ghost use lib.Dec.{T};
 ghost use Rattle.algebra.specs.Within.{Each};
-ghost use Rattle.forms.specs.Cells.{rowsAdd};
+ghost use Rattle.forms.specs.Cells.{positives, rowsAdd};
 ghost use Rattle.forms.specs.Cuttings.{fourOf};
-ghost use Rattle.forms.specs.Shapes.{pass, cutTo};
+ghost use Rattle.forms.specs.Shapes.{tips, pass, cutTo};
 ghost use Rattle.forms.specs.Triangles.{six};
 ghost use Rattle.triangle_cuts.specs.Corners.{firstBad};
 
@@ -76,11 +78,18 @@ pub fn quarter(c: [i64; 6], i: u8) -> [i64; 6]
     values
 }
 
+// Whether the corner values are all above zero, without a branch on a value.
+pub fn corners_positive(c: [i64; 6]) -> bool
+    ensures { λ r. ⌜ r ≡ positives (tips six) c ⌝ }
+{
+    (0 < c[0]) & (0 < c[1]) & (0 < c[2])
+}
+
 // The sign test, without a branch on a value.
 pub fn passes(c: [i64; 6]) -> bool
     ensures { λ r. ⌜ r ≡ pass six c ⌝ }
 {
-    (0 < c[0]) & (0 < c[1]) & (0 < c[2]) & none_negative(&c)
+    corners_positive(c) & none_negative(&c)
 }
 
 // The first bad corner of a cell of a level, with its corners at the columns xs and the rows ys.

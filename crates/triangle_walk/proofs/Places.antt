@@ -1,71 +1,131 @@
--- The room of a triangle's walk, and of one more cut.
---   last-quarter    : which quarter is left after the first three
+-- Where the quarters of a triangle's cell stand, and the room of its walk and of one more cut.
+--   columnOf, rowOf, upOf == the first corner of a quarter, and whether it points up: the middle one points the other way
+--   sub-corners     : those are the corners that the law gives the quarter
 --   cut-room, room-x, room-y : what the callees need
 --   quarter-room    : a quarter has room for one cut less
 --   start-room      : the whole element has room for ten cuts
 -- Assumes nothing.
 use mathlib.Core.Path.{_≡_, refl}
+use mathlib.Core.Bool.{Bool, true, false, not}
 use mathlib.Core.List.{List, [], _∷_}
-use Prim.Native.Nat.{ℕ, zero, suc, _+_, _*_, _-_, _≤_, _<_}
+use Prim.Native.Nat.{ℕ, _+_, _*_, _-_, _≤_, _<_}
 use native.Mathlib.Nat as N
 use native.Mathlib.Omega.{arith}
 use lib.Dec.{lit≤}
 use lib.IntN.{ℤ}
 use Rattle.algebra.specs.Within.{Each}
 use Rattle.algebra.proofs.Within.{each-≤}
-use Rattle.forms.specs.Cuttings.{Four, first, second, third, fourth, fourOf}
+use Rattle.forms.specs.Cuttings.{Four, first, second, third, fourth}
 use Rattle.forms.specs.Shapes.{cutTo}
 use Rattle.forms.specs.Triangles.{six}
 use Rattle.forms.proofs.Triangles.{six-lawful}
-use Rattle.walks.specs.Triangles.{along}
+use Rattle.walks.specs.Triangles.{Corners, triangleChart}
 use Rattle.walks.specs.Room.{cap, span}
 use Rattle.walks.proofs.Room.{cap-cut, cap-down, cap-quarter, span-le, span-cut, span-down}
-use Rattle.triangle_walk.specs.Walks.{Low, Room}
+use Rattle.triangle_walk.specs.Walks.{ahead, corners, least, Low, Room}
 
-pub last-quarter : (i : ℕ) → ¬ (i ≡ 0) → ¬ (i ≡ 1) → ¬ (i ≡ 2) → fourOf i ≡ fourth
-last-quarter zero f g h = absurd (f refl)
-last-quarter (suc zero) f g h = absurd (g refl)
-last-quarter (suc (suc zero)) f g h = absurd (h refl)
-last-quarter (suc (suc (suc i))) f g h = refl
+-- ---- the place of a quarter
+abbrev pub columnOf : Four → Bool → ℕ → ℕ
+columnOf first up i = 2 * i
+columnOf second up i = i + ahead up i
+columnOf third up i = 2 * i
+columnOf fourth up i = i + ahead up i
 
-low-≤ : {a b : ℕ} {v : List ℕ} → Low a v → a ≤ b → Low b v
-low-≤ p h = record { first = N.le-trans (p .first) h; second = N.le-trans (p .second) h; third = N.le-trans (p .third) h }
+abbrev pub rowOf : Four → Bool → ℕ → ℕ
+rowOf first up j = 2 * j
+rowOf second up j = 2 * j
+rowOf third up j = j + ahead up j
+rowOf fourth up j = j + ahead up j
 
-low-along : (i : Four) {a b : ℕ} (v : List ℕ) → Low a v → 2 * a ≤ b → Low b (along i v)
-low-along first v p h =
-    record { first = omega (arith, p .first); second = omega (arith, p .first, p .second); third = omega (arith, p .first, p .third) }
-low-along second v p h =
-    record { first = omega (arith, p .first, p .second); second = omega (arith, p .second); third = omega (arith, p .second, p .third) }
-low-along third v p h =
-    record { first = omega (arith, p .first, p .third); second = omega (arith, p .second, p .third); third = omega (arith, p .third) }
-low-along fourth v p h =
-    record { first = omega (arith, p .second, p .third); second = omega (arith, p .first, p .third); third = omega (arith, p .first, p .second) }
+abbrev pub upOf : Four → Bool → Bool
+upOf first up = up
+upOf second up = up
+upOf third up = up
+upOf fourth up = not up
+
+-- on the grid below: ahead of twice k stands the middle, ahead of the middle twice the one ahead, and behind it twice k
+record Doubled (up : Bool) (k : ℕ) : Type 0 where
+  middle : ahead up (2 * k) ≡ k + ahead up k
+  far : ahead up (k + ahead up k) ≡ 2 * ahead up k
+  back : ahead (not up) (k + ahead up k) ≡ 2 * k
+
+doubled : (up : Bool) (k : ℕ) → least up ≤ k → Doubled up k
+doubled true k h = record { middle = omega arith; far = omega arith; back = omega arith }
+doubled false k h = record { middle = omega arith; far = omega arith; back = omega arith }
+
+corners-≡ : {a b c d e f p q r s t u : ℕ} → a ≡ p → b ≡ q → c ≡ r → d ≡ s → e ≡ t → f ≡ u
+    → _≡_ {A = Corners} (record { xs = a ∷ b ∷ c ∷ []; ys = d ∷ e ∷ f ∷ [] }) (record { xs = p ∷ q ∷ r ∷ []; ys = s ∷ t ∷ u ∷ [] })
+corners-≡ a b c d e f = λ z. record { xs = a z ∷ b z ∷ c z ∷ []; ys = d z ∷ e z ∷ f z ∷ [] }
+
+pub sub-corners : (q : Four) (i j : ℕ) (up : Bool) → least up ≤ i → least up ≤ j
+    → corners (columnOf q up i) (rowOf q up j) (upOf q up) ≡ triangleChart .sub q (corners i j up)
+sub-corners first i j up h k =
+    let x = doubled up i h in let y = doubled up j k in
+    corners-≡ refl (x .middle) (omega arith) refl (omega arith) (y .middle)
+sub-corners second i j up h k =
+    let x = doubled up i h in let y = doubled up j k in
+    corners-≡ refl (x .far) (omega arith) (omega arith) refl (y .middle)
+sub-corners third i j up h k =
+    let x = doubled up i h in let y = doubled up j k in
+    corners-≡ (omega arith) (omega (arith, x .middle)) refl refl refl (y .far)
+sub-corners fourth i j up h k =
+    let x = doubled up i h in let y = doubled up j k in
+    corners-≡ (omega arith) (omega (arith, x .back)) refl refl refl (omega (arith, y .back))
+
+-- ---- room
+low-≤ : {a b k : ℕ} {up : Bool} → Low a up k → a ≤ b → Low b up k
+low-≤ p h = record { here = N.le-trans (p .here) h; there = N.le-trans (p .there) h; before = p .before }
+
+-- twice k, and the middle, which may stand in a cell that points the other way
+low-near : {a b k : ℕ} (up : Bool) → Low a up k → 2 * a ≤ b → Low b up (2 * k)
+low-near true p h = record { here = omega (arith, p .here); there = omega (arith, p .there); before = omega arith }
+low-near false p h = record { here = omega (arith, p .here); there = omega (arith, p .here); before = omega (arith, p .before) }
+
+low-middle : {a b k : ℕ} (up : Bool) → Low a up k → 2 * a ≤ b → Low b up (k + ahead up k)
+low-middle true p h = record { here = omega (arith, p .there); there = omega (arith, p .there); before = omega arith }
+low-middle false p h = record { here = omega (arith, p .here); there = omega (arith, p .here); before = omega (arith, p .before) }
+
+low-turned : {a b k : ℕ} (up : Bool) → Low a up k → 2 * a ≤ b → Low b (not up) (k + ahead up k)
+low-turned true p h = record { here = omega (arith, p .there); there = omega (arith, p .there); before = omega arith }
+low-turned false p h = record { here = omega (arith, p .here); there = omega (arith, p .here); before = omega (arith, p .before) }
+
+low-column : (q : Four) {a b i : ℕ} {up : Bool} → Low a up i → 2 * a ≤ b → Low b (upOf q up) (columnOf q up i)
+low-column first {up = up} p h = low-near up p h
+low-column second {up = up} p h = low-middle up p h
+low-column third {up = up} p h = low-near up p h
+low-column fourth {up = up} p h = low-turned up p h
+
+low-row : (q : Four) {a b j : ℕ} {up : Bool} → Low a up j → 2 * a ≤ b → Low b (upOf q up) (rowOf q up j)
+low-row first {up = up} p h = low-near up p h
+low-row second {up = up} p h = low-near up p h
+low-row third {up = up} p h = low-middle up p h
+low-row fourth {up = up} p h = low-turned up p h
 
 some-left : {n : ℕ} → 0 < n → ¬ (n ≡ 0)
 some-left h e = omega arith
 
-module _ {n l : ℕ} {xs ys : List ℕ} {c : List ℤ} (r : Room n l xs ys c) where
+module _ {n l i j : ℕ} {up : Bool} {c : List ℤ} (r : Room n l i j up c) where
   pub cut-room : 0 < n → Each 1152921504606846976 c
   cut-room h = each-≤ (r .small) (let k = cap-cut 4 n (some-left h) in omega arith)
 
-  pub room-x : Low 1048576 xs
+  pub room-x : Low 1048576 up i
   room-x = low-≤ (r .wide) (span-le n)
 
-  pub room-y : Low 1048576 ys
+  pub room-y : Low 1048576 up j
   room-y = low-≤ (r .high) (span-le n)
 
-  pub quarter-room : (i : Four) {x y : List ℕ} {q : List ℤ} → 0 < n
-      → q ≡ cutTo six i c
-      → x ≡ along i xs
-      → y ≡ along i ys
-      → Room (n - 1) (l + 1) x y q
-  quarter-room i h e f g =
+  pub quarter-room : (q : Four) {x y : ℕ} {v : List ℤ} → 0 < n
+      → v ≡ cutTo six q c
+      → x ≡ columnOf q up i
+      → y ≡ rowOf q up j
+      → Room (n - 1) (l + 1) x y (upOf q up) v
+  quarter-room q h e f g =
       rw (e, f, g)
       (record {
-        small = cap-quarter six six-lawful i n c (some-left h) (r .small);
+        small = cap-quarter six six-lawful q n c (some-left h) (r .small);
         deep = let d = r .deep in omega arith;
-        wide = low-along i xs (r .wide) (span-cut n (some-left h));
-        high = low-along i ys (r .high) (span-cut n (some-left h));
+        wide = low-column q (r .wide) (span-cut n (some-left h));
+        high = low-row q (r .high) (span-cut n (some-left h));
       })
 
 cap-ten : 4398046511104 ≤ cap 4 10
@@ -76,13 +136,9 @@ span-ten : 1 ≤ span 10
 unfolding span
 span-ten = lit≤ tt
 
-pub start-room : (n : ℕ) (c : List ℤ) → n ≤ 10 → Each 4398046511104 c → Room n 0 (0 ∷ 1 ∷ 0 ∷ []) (0 ∷ 0 ∷ 1 ∷ []) c
+pub start-room : (n : ℕ) (c : List ℤ) → n ≤ 10 → Each 4398046511104 c → Room n 0 0 0 true c
 start-room n c h p =
     let e : 10 - n + n ≡ 10 = omega arith in
     let s : 1 ≤ span n = N.le-trans span-ten (rw e at (span-down (10 - n) n)) in
-    record {
-      small = each-≤ p (N.le-trans cap-ten (rw e at (cap-down 4 (10 - n) n)));
-      deep = omega arith;
-      wide = record { first = omega arith; second = s; third = omega arith };
-      high = record { first = omega arith; second = omega arith; third = s };
-    }
+    let low : Low (span n) true 0 = record { here = omega arith; there = s; before = omega arith } in
+    record { small = each-≤ p (N.le-trans cap-ten (rw e at (cap-down 4 (10 - n) n))); deep = omega arith; wide = low; high = low }

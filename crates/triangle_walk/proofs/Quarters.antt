@@ -1,15 +1,18 @@
 -- The code's walk of a triangle's cell is the walk of the law.
 --   first-corner   : the first bad corner that the code finds is the law's
+--   quarterWalk q n s == the law's walk of quarter q of the cell, where n cuts are left for the cell
 --   quarter-is     : the walk of a quarter, from what the code hands over
+--   next-is        : the walk of one quarter more
 --   quarters-are   : the four quarters, as the code walks them
---   quarter-few    : a quarter's walk counts few cells
+--   cell-few, quarter-few, more-few : a walk of a cell, of a quarter, and of one quarter more counts few cells
 -- Assumes nothing.
 use mathlib.Core.Path.{_≡_, refl, sym, _∙_, ap}
+use mathlib.Core.Bool.{Bool}
 use mathlib.Core.List.{List}
 use Prim.Native.Nat.{ℕ, _+_, _-_}
 use native.Mathlib.Omega.{arith}
 use lib.IntN.{ℤ}
-use Rattle.forms.specs.Cuttings.{Four, first, second, third, fourth, fourOf}
+use Rattle.forms.specs.Cuttings.{Four, first, second, third, fourth}
 use Rattle.forms.specs.Shapes.{cutTo}
 use Rattle.forms.specs.Triangles.{six, degrees6, place6}
 use Rattle.corners.specs.First.{nothing, better}
@@ -18,57 +21,67 @@ use Rattle.steps.specs.Steps.{merge, lowered}
 use Rattle.steps.specs.declared.Walk.{Walk}
 use Rattle.triangle_cuts.specs.Corners as code
 use Rattle.walks.specs.Walk.{one, both, firstBad, firstCorner, badCorner, walk, cuts}
-use Rattle.walks.specs.Triangles.{Corners, along, triangleChart}
+use Rattle.walks.specs.Triangles.{Corners, triangleChart}
 use Rattle.walks.specs.Room.{Few}
-use Rattle.walks.proofs.Cases.{run-both}
+use Rattle.walks.proofs.Cases.{run-more}
 use Rattle.walks.proofs.Triangles.{triangle-charted}
-use Rattle.walks.proofs.Room.{few-of}
-use Rattle.triangle_walk.specs.Walks.{cellWalk, quarterWalk, Room}
+use Rattle.walks.proofs.Room.{few-of, few-merge}
+use Rattle.triangle_walk.specs.Walks.{corners, cellWalk, Room}
+use Rattle.triangle_walk.proofs.Places.{columnOf, rowOf, upOf, sub-corners}
 
 better-nothing : (f : First) → better nothing f ≡ f
 unfolding better
 better-nothing f = refl
 
-module _ (l : ℕ) (xs ys : List ℕ) (c : List ℤ) where
-  abbrev place : Corners
-  place = record { xs = xs; ys = ys }
+pub first-corner : (l : ℕ) (p : Corners) (c : List ℤ) → code.firstBad c l (p .xs) (p .ys) ≡ firstCorner six triangleChart l p c
+unfolding code.firstBad firstBad badCorner
+first-corner l p c =
+    let at = code.at c l (p .xs) (p .ys) in
+    sym (ap (λ (f : First). better (better f (at 1)) (at 2)) (better-nothing (at 0)))
 
-  pub first-corner : code.firstBad c l xs ys ≡ firstCorner six triangleChart l place c
-  unfolding code.firstBad firstBad badCorner
-  first-corner = sym (ap (λ (f : First). better (better f (code.at c l xs ys 1)) (code.at c l xs ys 2)) (better-nothing (code.at c l xs ys 0)))
+pub cell-few : {n l i j : ℕ} {up : Bool} {c : List ℤ} {w : Walk} (s : ℕ) → Room n l i j up c → w ≡ cellWalk n l s i j up c → Few 1048576 w
+cell-few {n} {l} {i} {j} {up} {c} s r e =
+    few-of six triangleChart (triangle-charted 2 degrees6 place6) n l s (corners i j up) c (let d = r .deep in omega arith) e
 
-  pub quarter-is : (i n s : ℕ) {x y : List ℕ} {q : List ℤ} {w : Walk}
-      → q ≡ cutTo six (fourOf i) c
-      → x ≡ along (fourOf i) xs
-      → y ≡ along (fourOf i) ys
-      → w ≡ cellWalk (n - 1) (l + 1) s x y q
-      → w ≡ quarterWalk i n l s xs ys c
-  quarter-is i n s e f g h = h ∙ rw (e, f, g)
+-- ---- the quarters of a cell at a place
+module _ {n l i j : ℕ} {up : Bool} {c : List ℤ} (room : Room n l i j up c) where
+  abbrev pub quarterWalk : Four → ℕ → Walk
+  quarterWalk q s = walk six triangleChart (n - 1) (l + 1) s (triangleChart .sub q (corners i j up)) (cutTo six q c)
 
-  -- the law's walk of a quarter
-  abbrev part : ℕ → Four → ℕ → Walk
-  part n i s = walk six triangleChart (n - 1) (l + 1) s (triangleChart .sub i place) (cutTo six i c)
+  pub quarter-is : (q : Four) (s : ℕ) {x y : ℕ} {v : List ℤ} {w : Walk}
+      → v ≡ cutTo six q c
+      → x ≡ columnOf q up i
+      → y ≡ rowOf q up j
+      → w ≡ cellWalk (n - 1) (l + 1) s x y (upOf q up) v
+      → w ≡ quarterWalk q s
+  quarter-is q s e f g h =
+      h ∙ rw (e, f, g) (ap (λ (p : Corners). walk six triangleChart (n - 1) (l + 1) s p (cutTo six q c))
+      (sub-corners q i j up (room .wide .before) (room .high .before)))
 
-  pub quarters-are : (n stop : ℕ) {s t u : ℕ} {p q pq r pqr v w : Walk}
-      → p ≡ quarterWalk 0 n l stop xs ys c
-      → s ≡ lowered stop (p .best)
-      → q ≡ quarterWalk 1 n l s xs ys c
-      → pq ≡ merge p q
-      → t ≡ lowered stop (pq .best)
-      → r ≡ quarterWalk 2 n l t xs ys c
-      → pqr ≡ merge pq r
-      → u ≡ lowered stop (pqr .best)
-      → v ≡ quarterWalk 3 n l u xs ys c
-      → w ≡ merge pqr v
-      → w ≡ cuts six triangleChart (n - 1) l stop place c
-  quarters-are n stop p-is s-is q-is pq-is t-is r-is pqr-is u-is v-is w-is =
-      run-both (both (both (one first) (one second)) (one third)) (one fourth) (part n) stop
-      (run-both (both (one first) (one second)) (one third) (part n) stop
-      (run-both (one first) (one second) (part n) stop p-is s-is q-is pq-is) t-is r-is pqr-is) u-is v-is w-is
+  -- the walk a of the quarters before it, and that of quarter q
+  pub next-is : (q : Four) (s : ℕ) (a : Walk) {x y : ℕ} {v : List ℤ} {w : Walk}
+      → v ≡ cutTo six q c
+      → x ≡ columnOf q up i
+      → y ≡ rowOf q up j
+      → w ≡ merge a (cellWalk (n - 1) (l + 1) (lowered s (a .best)) x y (upOf q up) v)
+      → w ≡ merge a (quarterWalk q (lowered s (a .best)))
+  next-is q s a e f g h = h ∙ ap (merge a) (quarter-is q (lowered s (a .best)) e f g refl)
 
-pub quarter-few : {n l : ℕ} {xs ys : List ℕ} {c : List ℤ} {w : Walk} (i s : ℕ) → Room n l xs ys c
-    → w ≡ quarterWalk i n l s xs ys c
-    → Few 1048576 w
-quarter-few {n} {l} {xs} {ys} {c} i s r e =
-    few-of six triangleChart (triangle-charted 2 degrees6 place6) (n - 1) (l + 1) s
-    (triangleChart .sub (fourOf i) (record { xs = xs; ys = ys })) (cutTo six (fourOf i) c) (let d = r .deep in omega arith) e
+  pub quarters-are : (stop : ℕ) {p q r w : Walk}
+      → p ≡ quarterWalk first stop
+      → q ≡ merge p (quarterWalk second (lowered stop (p .best)))
+      → r ≡ merge q (quarterWalk third (lowered stop (q .best)))
+      → w ≡ merge r (quarterWalk fourth (lowered stop (r .best)))
+      → w ≡ cuts six triangleChart (n - 1) l stop (corners i j up) c
+  quarters-are stop p-is q-is r-is w-is =
+      run-more (both (both (one first) (one second)) (one third)) fourth quarterWalk stop
+      (run-more (both (one first) (one second)) third quarterWalk stop (run-more (one first) second quarterWalk stop p-is q-is) r-is) w-is
+
+  pub quarter-few : {w : Walk} (q : Four) (s : ℕ) → w ≡ quarterWalk q s → Few 1048576 w
+  quarter-few q s e =
+      few-of six triangleChart (triangle-charted 2 degrees6 place6) (n - 1) (l + 1) s
+      (triangleChart .sub q (corners i j up)) (cutTo six q c) (let d = room .deep in omega arith) e
+
+  -- one quarter more
+  pub more-few : {m : ℕ} {a w : Walk} (q : Four) (s : ℕ) → Few m a → w ≡ merge a (quarterWalk q s) → Few (m + 1048576) w
+  more-few q s p e = few-merge e p (quarter-few q s refl)

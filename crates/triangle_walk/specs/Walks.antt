@@ -1,34 +1,44 @@
 -- What the walk over a triangle's cells answers, and what it needs.
---   cellWalk n l stop xs ys c == the walk of a cell with its corners at these columns and rows
---   quarterWalk i n l stop xs ys c == the walk of its quarter i, with a cut less to go
---   Low m v       == three columns, or rows, of at most m
---   Room n l xs ys c == what a walk of n cuts needs of its cell, its level and its place
+--   ahead up k    == the column, or the row, after k where the cell points up, and before k where it points down
+--   corners i j up == the corners of the cell whose first corner is the grid point (i, j): the second stands ahead of it in its row, the
+--                    third in its column
+--   cellWalk n l stop i j up c == the walk of the cell there
+--   least up      == the least first column, or row, of a cell: one that points down has one before it
+--   Low m up k    == k and the column, or the row, ahead of it are at most m, and k is no less than that
+--   Room n l i j up c == what a walk of n cuts needs of its cell, its level and its place
 -- Definitions only.
-use mathlib.Core.List.{List}
+use mathlib.Core.Bool.{Bool, true, false}
+use mathlib.Core.List.{List, [], _∷_}
 use Prim.Native.Nat.{ℕ, _+_, _-_, _≤_}
 use lib.IntN.{ℤ}
 use Rattle.algebra.specs.Within.{Each}
-use Rattle.forms.specs.Cuttings.{fourOf}
-use Rattle.forms.specs.Shapes.{cutTo}
 use Rattle.forms.specs.Triangles.{six}
 use Rattle.steps.specs.declared.Walk.{Walk}
 use Rattle.walks.specs.Walk.{walk}
-use Rattle.walks.specs.Triangles.{el, along, triangleChart}
+use Rattle.walks.specs.Triangles.{Corners, triangleChart}
 use Rattle.walks.specs.Room.{cap, span}
 
-abbrev pub cellWalk : ℕ → ℕ → ℕ → List ℕ → List ℕ → List ℤ → Walk
-cellWalk n l stop xs ys c = walk six triangleChart n l stop (record { xs = xs; ys = ys }) c
+abbrev pub ahead : Bool → ℕ → ℕ
+ahead true k = k + 1
+ahead false k = k - 1
 
-abbrev pub quarterWalk : ℕ → ℕ → ℕ → ℕ → List ℕ → List ℕ → List ℤ → Walk
-quarterWalk i n l stop xs ys c = cellWalk (n - 1) (l + 1) stop (along (fourOf i) xs) (along (fourOf i) ys) (cutTo six (fourOf i) c)
+abbrev pub corners : ℕ → ℕ → Bool → Corners
+corners i j up = record { xs = i ∷ ahead up i ∷ i ∷ []; ys = j ∷ j ∷ ahead up j ∷ [] }
 
-pub record Low (m : ℕ) (v : List ℕ) : Type 0 where
-  pub first : el v 0 ≤ m
-  pub second : el v 1 ≤ m
-  pub third : el v 2 ≤ m
+abbrev pub cellWalk : ℕ → ℕ → ℕ → ℕ → ℕ → Bool → List ℤ → Walk
+cellWalk n l stop i j up c = walk six triangleChart n l stop (corners i j up) c
 
-pub record Room (n l : ℕ) (xs ys : List ℕ) (c : List ℤ) : Type 0 where
+abbrev pub least : Bool → ℕ
+least true = 0
+least false = 1
+
+pub record Low (m : ℕ) (up : Bool) (k : ℕ) : Type 0 where
+  pub here : k ≤ m
+  pub there : ahead up k ≤ m
+  pub before : least up ≤ k
+
+pub record Room (n l i j : ℕ) (up : Bool) (c : List ℤ) : Type 0 where
   pub small : Each (cap 4 n) c
   pub deep : l + n ≤ 10
-  pub wide : Low (span n) xs
-  pub high : Low (span n) ys
+  pub wide : Low (span n) up i
+  pub high : Low (span n) up j

@@ -1,80 +1,77 @@
-// The walk over the cells of a triangle (01: "A cell that does not pass is split in four").
+// The walk over the cells of a triangle (01: "A cell that does not pass is split in four"). A cell stands at the grid point (i, j),
+// its first corner; its second and third corner stand a column and a row on where it points up, and back where it points down.
 use corners::none_found;
 use steps::Walk;
+use steps::kept;
 use steps::leaf;
 use steps::lowered;
 use steps::merge;
+use triangle_cuts::by_sums::split;
+use triangle_cuts::corners_positive;
 use triangle_cuts::first_bad;
 use triangle_cuts::passes;
-use triangle_cuts::quarter;
 ghost use mathlib.Core.Path.{_≡_};
-ghost use Prim.Native.Nat.{_<_};
-ghost use Rattle.forms.specs.Cuttings.{fourOf};
-ghost use Rattle.walks.specs.Triangles as triangles;
-ghost use Rattle.triangle_walk.specs.Walks.{Low, Room, cellWalk, quarterWalk};
+ghost use mathlib.Core.Bool.{false};
+ghost use Rattle.forms.specs.Shapes.{pass};
+ghost use Rattle.forms.specs.Triangles.{six};
+ghost use Rattle.steps.specs.Steps as steps;
+ghost use Rattle.walks.specs.Room.{Few};
+ghost use Rattle.triangle_walk.specs.Walks.{Low, Room, cellWalk};
+ghost use Rattle.triangle_walk.specs.Walks as walks;
 
-// The columns, or the rows, of the corners of quarter i, on the next level's grid.
-fn along(v: [u32; 3], i: u8) -> [u32; 3]
-    requires { ⌜ Low 1048576 v ⌝ }
-    ensures { λ r. ⌜ r ≡ triangles.along (fourOf i) v ⌝ }
+// The column, or the row, beside k: the next where the cell points up, the one before where it points down.
+fn ahead(up: bool, k: u32) -> u32
+    requires { ⌜ Low 1048576 up k ⌝ }
+    ensures { λ r. ⌜ r ≡ walks.ahead up k ⌝ }
 {
-    let a = v[0];
-    let b = v[1];
-    let c = v[2];
-    if i == 0 {
-        return [2 * a, a + b, a + c];
+    if up {
+        return k + 1;
     }
-    if i == 1 {
-        return [a + b, 2 * b, b + c];
-    }
-    if i == 2 {
-        return [a + c, b + c, 2 * c];
-    }
-    [b + c, a + c, a + b]
+    k - 1
 }
 
-// The walk of quarter i of a cell.
-fn walk_quarter(
-    c: [i64; 6],
-    i: u8,
-    left: u32,
-    level: u32,
-    stop: u32,
-    xs: [u32; 3],
-    ys: [u32; 3],
-) -> Walk
-    requires { ⌜ (i < 4) × (0 < left) × Room left level xs ys c ⌝ }
-    ensures { λ r. ⌜ r ≡ quarterWalk i left level stop xs ys c ⌝ }
+// A walk w, and after it that of a cell of the level, to the limit that w leaves. A cell that passes is tested here, without a call.
+fn next(w: Walk, c: [i64; 6], left: u32, level: u32, stop: u32, i: u32, j: u32, up: bool) -> Walk
+    requires { ⌜ Few 3145728 w × Room left level i j up c ⌝ }
+    ensures { λ r. ⌜ r ≡ steps.merge w (cellWalk left level (steps.lowered stop (w .best)) i j up c) ⌝ }
 {
-    walk_cell(
-        quarter(c, i),
-        left - 1,
-        level + 1,
-        stop,
-        along(xs, i),
-        along(ys, i),
-    )
-}
-
-// The walk of a cell of the level, with its corners at the columns xs and the rows ys: at most `left` cuts, none below the level
-// `stop`.
-pub fn walk_cell(c: [i64; 6], left: u32, level: u32, stop: u32, xs: [u32; 3], ys: [u32; 3]) -> Walk
-    requires { ⌜ Room left level xs ys c ⌝ }
-    ensures { λ r. ⌜ r ≡ cellWalk left level stop xs ys c ⌝ }
-{
+    let limit = lowered(stop, w);
     if passes(c) {
-        return leaf(level, none_found(), 0);
+        return kept(w, level);
     }
-    let best = first_bad(c, level, xs, ys);
-    let found = best.bad;
-    if found | (stop <= level) | (left == 0) {
-        return leaf(level, best, 1);
+    merge(w, walk_open(c, left, level, limit, i, j, up))
+}
+
+// The walk of a cell that does not pass.
+fn walk_open(c: [i64; 6], left: u32, level: u32, stop: u32, i: u32, j: u32, up: bool) -> Walk
+    requires { ⌜ (pass six c ≡ false) × Room left level i j up c ⌝ }
+    ensures { λ r. ⌜ r ≡ cellWalk left level stop i j up c ⌝ }
+{
+    let x = ahead(up, i);
+    let y = ahead(up, j);
+    if !corners_positive(c) | (stop <= level) | (left == 0) {
+        return leaf(level, first_bad(c, level, [i, x, i], [j, j, y]), 1);
     }
-    let p = walk_quarter(c, 0, left, level, stop, xs, ys);
-    let q = walk_quarter(c, 1, left, level, lowered(stop, p), xs, ys);
-    let pq = merge(p, q);
-    let r = walk_quarter(c, 2, left, level, lowered(stop, pq), xs, ys);
-    let pqr = merge(pq, r);
-    let s = walk_quarter(c, 3, left, level, lowered(stop, pqr), xs, ys);
-    merge(pqr, s)
+    let n = left - 1;
+    let l = level + 1;
+    // the first corners of the quarters, on the grid of the next level: those of the cell, and the middles of its edges
+    let ii = 2 * i;
+    let jj = 2 * j;
+    let ix = i + x;
+    let jy = j + y;
+    let p = walk_cell(split(c, 0), n, l, stop, ii, jj, up);
+    let q = next(p, split(c, 1), n, l, stop, ix, jj, up);
+    let r = next(q, split(c, 2), n, l, stop, ii, jy, up);
+    next(r, split(c, 3), n, l, stop, ix, jy, !up)
+}
+
+// The walk of a cell of the level at the grid point (i, j): at most `left` cuts, none below the level `stop`.
+pub fn walk_cell(c: [i64; 6], left: u32, level: u32, stop: u32, i: u32, j: u32, up: bool) -> Walk
+    requires { ⌜ Room left level i j up c ⌝ }
+    ensures { λ r. ⌜ r ≡ cellWalk left level stop i j up c ⌝ }
+{
+    if !passes(c) {
+        return walk_open(c, left, level, stop, i, j, up);
+    }
+    leaf(level, none_found(), 0)
 }

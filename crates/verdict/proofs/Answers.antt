@@ -8,7 +8,7 @@
 -- Assumes nothing.
 use mathlib.Core.Path.{_≡_, refl, sym, _∙_, ap, subst}
 use mathlib.Core.Bool.{Bool, true, false, cond}
-use mathlib.Core.List.{List, [], _∷_}
+use mathlib.Core.List.{List}
 use mathlib.Core.Logic.{inl, inr}
 use Prim.Native.Nat.{ℕ, _*_, _/_, _≤_}
 use native.Mathlib.Nat as N
@@ -112,12 +112,12 @@ triangle-small xs h = each-≤ (values-size six xs h) (lit≤ tt)
 pub triangle-room : (n : ℕ) (xs : List ℤ) {c : List ℤ} → n ≤ 10
     → Each 65536 xs
     → c ≡ values6 xs
-    → Room n 0 (0 ∷ 1 ∷ 0 ∷ []) (0 ∷ 0 ∷ 1 ∷ []) c
+    → Room n 0 0 0 true c
 unfolding controlValues
 triangle-room n xs {c} h k e = start-room n c h (each-as e (triangle-small xs k))
 
 pub triangle-walked : (n : ℕ) (xs : List ℤ) {c : List ℤ} {w : Walk} → c ≡ values6 xs
-    → w ≡ cellWalk n 0 n (0 ∷ 1 ∷ 0 ∷ []) (0 ∷ 0 ∷ 1 ∷ []) c
+    → w ≡ cellWalk n 0 n 0 0 true c
     → w ≡ walkOf six n (controlValues six xs)
 unfolding controlValues
 triangle-walked n xs e f = f ∙ ap (λ (c : List ℤ). walkOf six n c) e

@@ -95,7 +95,7 @@ fn walk_triangle(coords: &[i32], limit: u32) -> Walk
     ensures { λ r. ⌜ r ≡ walkOf six limit (controlValues six (now (coords .entry))) ⌝ }
 {
     let c = triangle::values(coords);
-    triangle_walk::walk_cell(c, limit, 0, limit, [0, 1, 0], [0, 0, 1])
+    triangle_walk::walk_cell(c, limit, 0, limit, 0, 0, true)
 }
 
 // The walk of a quad with eight nodes, or nine: two halvings for each level.
@@ -104,7 +104,7 @@ fn walk_quad(coords: &[i32], eight: bool, limit: u32) -> Walk
     ensures { λ r. ⌜ r ≡ walkOf (quadKind eight) limit (controlValues (quadKind eight) (now (coords .entry))) ⌝ }
 {
     let c = quad::values(coords, eight);
-    quad_walk::walk_u(c, 2 * limit, 0, limit, 0, 0)
+    quad_walk::walk_u(&c, 2 * limit, 0, limit, 0, 0)
 }
 
 // The verdict on an element, under a level limit.

@@ -2,25 +2,33 @@
 --   lowered-stop, lowered-le, below-lowered : the lowered limit
 --   walk-pass, walk-zero, walk-halt, walk-cut : the walk of a cell
 --   passed, kept, quartered : the same, from the tests and the answers of the code
+--   first-bad-is    : a cell has a bad corner where its corner values are not all above zero
+--   open-kept, open-cut : as kept and quartered, where the code tests the corner values
 --   cuts-left       : a cell that is cut has cuts left
---   run-both        : two parts of the plan, one after the other, from the answers of the code
+--   run-both, run-more : two parts of the plan, one after the other, from the answers of the code; one quarter more
+--   next-passed     : a walk and that of one cell more, which passes
 -- For every shape and chart. Assumes nothing.
-use mathlib.Core.Path.{_≡_, refl, sym, _∙_, ap, subst}
-use mathlib.Core.Bool.{Bool, true, false, cond, _&&_, _||_}
-use mathlib.Core.List.{List}
+use mathlib.Core.Path.{_≡_, refl, sym, _∙_, ap, ap₂, subst}
+use mathlib.Core.Bool.{Bool, true, false, not, cond, _&&_, _||_}
+use mathlib.Core.List.{List, [], _∷_, map}
 use Prim.Native.Nat.{ℕ, zero, suc, _-_, _≤_, _<_}
 use native.Mathlib.Nat as N
 use native.Mathlib.Numerals.{sub-one}
 use native.Mathlib.Omega.{arith}
+use borrow.Author.Tests.{lt-ltb, lt-leb}
 use lib.Dec.{T, leb, eqb, ltb, ltb→lt, eqb·suc-zero}
-use lib.IntN.{ℤ}
+use lib.IntN.{ℤ, pos, negsuc}
+use lib.ListN.{getD, length}
+use lib.Signed.{ltZ}
+use Rattle.algebra.proofs.Truth.{and-true, and-assoc}
 use Rattle.forms.specs.Cuttings.{Four}
-use Rattle.forms.specs.Shapes.{Shape, pass}
-use Rattle.corners.specs.First.{nothing}
+use Rattle.forms.specs.Cells.{positives, upTo}
+use Rattle.forms.specs.Shapes.{Shape, tips, spread, pass, cornerValue}
+use Rattle.corners.specs.First.{nothing, something, sooner, better, corner}
 use Rattle.corners.specs.declared.First.{First}
 use Rattle.steps.specs.Steps.{leaf, merge, lowered}
 use Rattle.steps.specs.declared.Walk.{Walk}
-use Rattle.walks.specs.Walk.{Plan, both, run, Chart, firstCorner, walk, cuts}
+use Rattle.walks.specs.Walk.{Plan, one, both, run, Chart, badCorner, firstBad, firstCorner, walk, cuts}
 
 -- ---- the lowered limit
 pub lowered-stop : (stop : ℕ) (f : First) → f .bad ≡ false → lowered stop f ≡ stop
@@ -107,6 +115,80 @@ module _ (S : Shape) (G : Chart) (l stop : ℕ) (p : G .Place) (c : List ℤ) wh
           h ∙ ap (λ (m : ℕ). cuts S G m l stop p c) (sub-one (suc n))
           ∙ sym (walk-cut n e (left (firstCorner S G l p c .bad || leb stop l) (eqb (suc n) 0) t))
 
+-- ---- a bad corner, by the corner values
+better-bad : (a b : First) → better a b .bad ≡ a .bad || b .bad
+unfolding better
+better-bad a b = go (a .bad) (b .bad) refl refl (sooner b a)
+  where
+    go : (s t : Bool) → a .bad ≡ s → b .bad ≡ t → (u : Bool) → cond ((s && t) && u) b (cond s a b) .bad ≡ s || t
+    go true true e f true = f
+    go true true e f false = e
+    go true false e f u = e
+    go false t e f u = f
+
+corner-is-bad : (v : ℤ) (l i j : ℕ) → corner v l i j .bad ≡ not (ltZ (pos 0) v)
+unfolding corner
+corner-is-bad (pos zero) l i j = refl
+corner-is-bad (pos (suc n)) l i j =
+    ap (λ (t : Bool). cond t (something l i j (pos (suc n))) nothing .bad) (lt-leb (suc n) 0 (omega arith))
+    ∙ sym (ap not (lt-ltb 0 (suc n) (omega arith)))
+corner-is-bad (negsuc n) l i j = refl
+
+-- a test of the first k
+all-more : (k : ℕ) (f : ℕ → Bool) → upTo (suc k) f ≡ upTo k f && f k
+all-more zero f = and-true (f 0)
+all-more (suc k) f = ap (λ b. f 0 && b) (all-more k (λ i. f (suc i))) ∙ and-assoc (f 0) (upTo k (λ i. f (suc i))) (f (suc k))
+
+not-and : (a b : Bool) → not a || not b ≡ not (a && b)
+not-and true b = refl
+not-and false b = refl
+
+module _ (S : Shape) (G : Chart) (l : ℕ) (p : G .Place) (c : List ℤ) where
+  above : ℕ → Bool
+  above k = ltZ (pos 0) (cornerValue S k c)
+
+  first-bad-of : (k : ℕ) → firstBad S G l p c k .bad ≡ not (upTo k above)
+  unfolding firstBad badCorner above
+  first-bad-of zero = refl
+  first-bad-of (suc k) =
+      better-bad (firstBad S G l p c k) (badCorner S G l p c k)
+      ∙ ap₂ _||_ (first-bad-of k) (corner-is-bad (cornerValue S k c) l _ _)
+      ∙ not-and (upTo k above) (above k)
+      ∙ ap not (sym (all-more k above))
+
+  positives-of : (g : List ℕ → ℕ) (ks : List (List ℕ))
+      → positives (map g ks) c ≡ upTo (length ks) (λ k. ltZ (pos 0) (getD c (g (getD ks k [])) (pos 0)))
+  positives-of g [] = refl
+  positives-of g (k ∷ ks) = ap (λ b. ltZ (pos 0) (getD c (g k) (pos 0)) && b) (positives-of g ks)
+
+  pub first-bad-is : firstCorner S G l p c .bad ≡ not (positives (tips S) c)
+  unfolding above
+  first-bad-is = first-bad-of (length (S .corners)) ∙ ap not (sym (positives-of (λ ks. S .place (spread (S .counts) ks)) (S .corners)))
+
+module _ (S : Shape) (G : Chart) (l stop : ℕ) (p : G .Place) (c : List ℤ) where
+  by-corners : (t u : Bool) {b : Bool} {f : First} → b ≡ positives (tips S) c → f ≡ firstCorner S G l p c → (not b || t) || u ≡ (f .bad || t) || u
+  by-corners t u e g =
+      ap (λ (x : Bool). (x || t) || u) (ap not e ∙ sym (ap (λ (f : First). f .bad) g ∙ first-bad-is S G l p c))
+
+  pub open-kept : (n : ℕ) {b : Bool} {f : First} {w : Walk} → pass S c ≡ false
+      → b ≡ positives (tips S) c
+      → ((not b || leb stop l) || eqb n 0) ≡ true
+      → f ≡ firstCorner S G l p c
+      → w ≡ leaf l f 1
+      → w ≡ walk S G n l stop p c
+  open-kept n e t h g k = kept S G l stop p c n e g (sym (by-corners (leb stop l) (eqb n 0) t g) ∙ h) k
+
+  pub open-cut : (n : ℕ) {b : Bool} {w : Walk} → pass S c ≡ false
+      → b ≡ positives (tips S) c
+      → ((not b || leb stop l) || eqb n 0) ≡ false
+      → w ≡ cuts S G (n - 1) l stop p c
+      → w ≡ walk S G n l stop p c
+  open-cut n e t h k = quartered S G l stop p c n e refl (sym (by-corners (leb stop l) (eqb n 0) t refl) ∙ h) k
+
+  -- ---- a walk a, and that of one cell more
+  pub next-passed : (n : ℕ) (a : Walk) {w : Walk} → pass S c ≡ true → w ≡ merge a (leaf l nothing 0) → w ≡ merge a (walk S G n l stop p c)
+  next-passed n a e h = h ∙ ap (merge a) (sym (walk-pass S G l stop p c n e))
+
 pub cuts-left : (b : Bool) (n : ℕ) → (b || eqb n 0) ≡ false → ¬ (n ≡ 0)
 cuts-left true n h e = subst T h tt
 cuts-left false n h e = subst T h (rw e tt)
@@ -119,3 +201,9 @@ pub run-both : (P Q : Plan) (f : Four → ℕ → Walk) (stop : ℕ) {s : ℕ} {
     → w ≡ run (both P Q) f stop
 run-both P Q f stop {s} {a} {b} {w} e g h k =
     k ∙ ap (merge a) (h ∙ ap (λ (t : ℕ). run Q f t) g) ∙ ap (λ (v : Walk). merge v (run Q f (lowered stop (v .best)))) e
+
+pub run-more : (P : Plan) (q : Four) (f : Four → ℕ → Walk) (stop : ℕ) {a w : Walk}
+    → a ≡ run P f stop
+    → w ≡ merge a (f q (lowered stop (a .best)))
+    → w ≡ run (both P (one q)) f stop
+run-more P q f stop e h = run-both P (one q) f stop e refl refl h

@@ -3,9 +3,10 @@
 --   cap g n   == the size of the values, where a cut lets them grow by g
 --   span n    == the size of columns and rows
 --   most n    == the number of cells
---   Few m w   == a walk counts at most m cells
+--   Few m w   == a walk counts at most m cells, and answers a bad point or none
 -- Definitions only.
 use Prim.Native.Nat.{ℕ, zero, suc, _*_, _/_, _^_, _≤_}
+use Rattle.steps.specs.Steps.{Plain}
 use Rattle.steps.specs.declared.Walk.{Walk}
 
 unfoldable pub cap : ℕ → ℕ → ℕ
@@ -23,3 +24,4 @@ most (suc n) = 4 * most n
 pub record Few (m : ℕ) (w : Walk) : Type 0 where
   pub cells : w .cells ≤ m
   pub failing : w .failing ≤ m
+  pub plain : Plain (w .best)

@@ -1,88 +1,66 @@
--- `points::within` meets its contract: the loop keeps that all before k are within the limit.
-use mathlib.Core.Path.{refl, sym}
-use Prim.Native.Nat.{ℕ, _-_, _^_, _≤_, _<_}
+-- `points::within` meets its contract: the loop keeps whether the first k are within the limit. Assumes nothing.
+use mathlib.Core.Path.{_≡_, refl, ap₂}
+use Prim.Native.Nat.{_-_, _≤_, _<_}
 use native.Mathlib.Omega.{arith}
-use borrow.Author.Needs.{sfits-of}
-use borrow.Author.Count.{below-more}
+use borrow.Author.Needs.{needs}
+use lib.Dec.{lit<}
 use lib.IntN.{pos, negℤ, _-ℤ_, +ℤ-idl}
-use lib.ListN.{length}
-use mir.Syntax.{w64}
+use lib.ListN.{length, getD}
+use lib.Signed.{leZ}
+use mir.Syntax.{w32}
 use mir.Val.{toZ, ofZ}
-use Rattle.algebra.specs.Within.{Within, Is}
-use Rattle.algebra.proofs.Truth.{true-T}
-use Rattle.algebra.proofs.Within.{within-of, beyond-above, beyond-below, each-of, st, held, named, lit, i-sub, fits, less, not-less}
-use Rattle.element.specs.Control.{at}
+use Rattle.algebra.specs.Within.{Is}
+use Rattle.algebra.proofs.Within.{stored, named, lit, i-sub, fits}
+use Rattle.points.proofs.Sofar.{Sofar, sofar-none, sofar-more, sofar-each, sofar-beyond}
 use Rattle.points.proofs.within.Statement.{statement}
 use Rattle.points.proofs.within.Tie as tie
 
 abbrev Inv-loop : tie.InvT-loop
-Inv-loop xs limit most least k₀ k = (k ≤ length xs) × ((m : ℕ) → m < k → Within limit (at xs m))
+Inv-loop xs limit most least all₀ k₀ all k = (k ≤ length xs) × Sofar xs limit k all
 
 abbrev μ-loop : tie.MeasureT-loop
-μ-loop xs limit most least k₀ k = length xs - k
+μ-loop xs limit most least all₀ k₀ all k = length xs - k
 
-limit-is : (c : tie.Start Inv-loop μ-loop) → Is 4294967295 (pos (c .args .limit)) (pos (c .args .limit))
-limit-is c = record { same = refl; within = record { size = omega arith } }
+limit-is : (c : tie.Start Inv-loop μ-loop) → Is 2147483647 (pos (c .args .limit)) (pos (c .args .limit))
+limit-is c = record { same = refl; within = record { size = omega (arith, c .pre) } }
 
-least-is : (c : tie.Start Inv-loop μ-loop) → Is 4294967295 (negℤ (pos (c .args .limit))) (toZ w64 (ofZ w64 (pos 0 -ℤ toZ w64 (c .args .limit))))
-least-is c = named (st (i-sub (lit 0) (st (limit-is c) tt)) tt) (+ℤ-idl (negℤ (pos (c .args .limit))))
+most-is : (c : tie.Start Inv-loop μ-loop) → Is 2147483647 (pos (c .args .limit)) (toZ w32 (c .args .limit))
+most-is c = stored w32 (limit-is c) (lit< tt)
 
-elem : (c : tie.After-coord Inv-loop μ-loop) → Is (2 ^ 63) (at (c .before .before .before .args .xs .now) (c .before .before .loop .k))
-    (toZ w64 (ofZ w64 (c .coord .result)))
-elem c = named (held (sfits-of (c .coord .ok))) (c .coord .ensures)
+least-is : (c : tie.Start Inv-loop μ-loop) → Is 2147483647 (negℤ (pos (c .args .limit))) (toZ w32 (ofZ w32 (pos 0 -ℤ toZ w32 (c .args .limit))))
+least-is c = named (stored w32 (i-sub (lit 0) (most-is c)) (lit< tt)) (+ℤ-idl (negℤ (pos (c .args .limit))))
 
--- src/lib.rt:24:16
 cast-most : tie.Need-cast-most Inv-loop μ-loop
 cast-most c = fits (limit-is c) tt
 
--- src/lib.rt:25:17
 sub-least : tie.Need-sub-least Inv-loop μ-loop
-sub-least c = fits (i-sub (lit 0) (st (limit-is c) tt)) tt
+sub-least c = fits (i-sub (lit 0) (most-is c)) tt
 
--- src/lib.rt:27:5
 loop-holds : tie.Need-loop-holds Inv-loop μ-loop
-loop-holds c = (omega arith, λ m h. absurd (omega arith))
+loop-holds c = (omega arith, sofar-none _ _)
 
--- src/lib.rt:28:13
-coord-requires : tie.Need-coord-requires Inv-loop μ-loop
-coord-requires c κs = tt
+mul-x : tie.Need-mul-x Inv-loop μ-loop
+mul-x c = search needs
 
--- src/lib.rt:30:13
-returns : tie.Need-returns Inv-loop μ-loop
-returns c =
-    let c2 = c .before .before in let c4 = c2 .before .before in (
-      (λ e. absurd (true-T e)),
-      λ e. (_, c2 .loop-test .taken, beyond-above _ _ (less (st (limit-is (c4)) tt) (elem (c .before)) (c .if1 .taken))),
-    )
+shared-slice-copy-out-x : tie.Need-shared-slice-copy-out-x Inv-loop μ-loop
+shared-slice-copy-out-x c = search needs
 
--- src/lib.rt:33:13
-returns-2 : tie.Need-returns-2 Inv-loop μ-loop
-returns-2 c =
-    let c2 = c .before .before in let c3 = c2 .before in let c5 = c3 .before .before in (
-      (λ e. absurd (true-T e)),
-      λ e. (_, c3 .loop-test .taken, beyond-below _ _ (less (elem (c2)) (least-is (c5)) (c .if2 .taken))),
-    )
-
--- src/lib.rt:35:9
 add-k : tie.Need-add-k Inv-loop μ-loop
 add-k c = omega arith
 
--- src/lib.rt:27:5
 loop-less : tie.Need-loop-less Inv-loop μ-loop
 loop-less c = omega arith
 
--- src/lib.rt:27:5
 loop-again : tie.Need-loop-again Inv-loop μ-loop
-loop-again c = (
-  omega arith,
-  below-more _ _ (c .before .before .before .before .loop .inv .1)
-      (within-of _ _ (not-less (elem (c .before .before)) (least-is (c .before .before .before .before .before)) (c .if2 .left))
-      (not-less (st (limit-is (c .before .before .before .before .before)) tt) (elem (c .before .before)) (c .before .if1 .left))),
-)
+loop-again c =
+    let start = c .before .before .before in let turn = c .before .before .loop in let v = start .args .xs .now in
+    let e : toZ w32 (ofZ w32 (getD v (turn .k) (pos 0))) ≡ getD v (turn .k) (pos 0) = search needs in (
+      omega arith,
+      sofar-more v (start .args .limit) (turn .k) (turn .all) _ _ (turn .inv .1) (ap₂ leZ e (most-is start .same)) (ap₂ leZ (least-is start .same) e),
+    )
 
--- src/lib.rt:20:1
-returns-3 : tie.Need-returns-3 Inv-loop μ-loop
-returns-3 c = ((λ e. each-of (λ k h. c .before .loop .inv .1 k (omega arith))), λ e. absurd (true-T (sym e)))
+returns : tie.Need-returns Inv-loop μ-loop
+returns c = (sofar-each (c .before .loop .inv .1) (omega arith), sofar-beyond (c .before .loop .inv .1) (omega arith))
 
 pub within-spec : {M : Type 1} → statement M
 within-spec =
@@ -93,10 +71,9 @@ within-spec =
     cast-most
     sub-least
     loop-holds
-    coord-requires
-    returns
-    returns-2
+    mul-x
+    shared-slice-copy-out-x
     add-k
     loop-less
     loop-again
-    returns-3)
+    returns)

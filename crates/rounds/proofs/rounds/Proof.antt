@@ -1,4 +1,4 @@
--- `rounds::rounds` is safe and ends: there are 16 turns.
+-- `rounds::rounds` is safe and ends: there are 64 turns.
 use Prim.Native.Nat.{_-_, _≤_, _<_}
 use native.Mathlib.Omega.{arith}
 use borrow.Author.Needs.{needs}
@@ -6,10 +6,10 @@ use Rattle.rounds.proofs.rounds.Statement.{statement}
 use Rattle.rounds.proofs.rounds.Tie as tie
 
 abbrev Inv-loop : tie.InvT-loop
-Inv-loop bytes count most₀ turn₀ most turn = turn ≤ 16
+Inv-loop bytes count most₀ turn₀ most turn = turn ≤ 64
 
 abbrev μ-loop : tie.MeasureT-loop
-μ-loop bytes count most₀ turn₀ most turn = 16 - turn
+μ-loop bytes count most₀ turn₀ most turn = 64 - turn
 
 -- src/main.rt:29:9
 check-block-requires : tie.Need-check-block-requires Inv-loop μ-loop
