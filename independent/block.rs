@@ -1,6 +1,7 @@
 // Element blocks, straight from the rules: their own writer, and the check record by record.
 
 use crate::element::{code, coordinate_limit, greatest_level, Element};
+use crate::verdict::{Judged, Verdict};
 
 pub struct Record {
     pub id: u32,
@@ -118,8 +119,13 @@ pub fn append(b: &mut [u8], used: u64, r: &Record) -> Result<u64, (u8, usize)> {
     Ok(used + 80)
 }
 
-// What `verdicts` prints, its lines.
-pub fn list(b: &[u8]) -> Vec<String> {
+// What a line of the list has behind id and kind.
+pub fn list_words(v: &Verdict) -> String {
+    format!("{} {} {} {} {}", v.word, v.level, v.i, v.j, v.cells)
+}
+
+// The lines of a list in which `judged` says what stands behind id and kind.
+pub fn list_of(b: &[u8], judged: impl Fn(&Element) -> String) -> Vec<String> {
     let count = match check(b) {
         Err((code, record)) => return vec![format!("refused {} {}", code, record)],
         Ok(n) => n,
@@ -129,10 +135,14 @@ pub fn list(b: &[u8]) -> Vec<String> {
         let r = stored(b, k);
         let e = r.element();
         assert!(code(&e, true) == 0);
-        let v = e.verdict();
-        out.push(format!("{} {} {} {} {} {} {}", r.id, r.kind, v.word, v.level, v.i, v.j, v.cells));
+        out.push(format!("{} {} {}", r.id, r.kind, judged(&e)));
     }
     out
+}
+
+// What `verdicts` prints, its lines.
+pub fn list(b: &[u8]) -> Vec<String> {
+    list_of(b, |e| list_words(&e.verdict()))
 }
 
 pub fn hex(b: &[u8]) -> String {

@@ -1,17 +1,7 @@
-// One element, straight from the rules: J from the node derivatives, control values by interpolation of J, and the verdict level by
-// level. Nothing here is shared with the checker: no control point, no cutting rule, no walk.
+// One element, straight from the rules: J from the node derivatives, control values by interpolation of J, and the cells of a level.
+// Nothing here is shared with the checker: no control point, no cutting rule, no walk.
 
 pub type Num = i128;
-
-#[derive(Clone, Debug, PartialEq)]
-pub struct Verdict {
-    pub word: &'static str,
-    pub level: u32,
-    pub i: u64,
-    pub j: u64,
-    pub value: Num,
-    pub cells: u64,
-}
 
 #[derive(Clone)]
 pub struct Element {
@@ -46,20 +36,19 @@ pub fn code(e: &Element, with_level: bool) -> u8 {
     0
 }
 
-fn det(a: [Num; 2], b: [Num; 2]) -> Num {
+pub fn det(a: [Num; 2], b: [Num; 2]) -> Num {
     a[0] * b[1] - a[1] * b[0]
 }
 
 impl Element {
-    fn node(&self, k: usize) -> [Num; 2] {
+    pub fn node(&self, k: usize) -> [Num; 2] {
         [self.coords[2 * k] as Num, self.coords[2 * k + 1] as Num]
     }
 
     // (p + q + r)²·J of a triangle at the weights p, q, r.
     fn triangle_j(&self, p: Num, q: Num, r: Num) -> Num {
         let w = p + q + r;
-        let n: Vec<[Num; 2]> = (0..6).map(|k| self.node(k)).collect();
-        let (a0, a1, a2, m01, m12, m02) = (n[0], n[1], n[2], n[3], n[4], n[5]);
+        let [a0, a1, a2, m01, m12, m02] = [0, 1, 2, 3, 4, 5].map(|k| self.node(k));
         let mut xi = [0; 2];
         let mut eta = [0; 2];
         for c in 0..2 {
@@ -180,7 +169,7 @@ impl Element {
     }
 
     // Each cell of a level, by its corners.
-    fn cells(&self, d: u32) -> Vec<([u64; 3], [u64; 3])> {
+    pub fn cells(&self, d: u32) -> Vec<([u64; 3], [u64; 3])> {
         let w = 1u64 << d;
         let mut out = Vec::new();
         for j in 0..w {
@@ -199,7 +188,7 @@ impl Element {
     }
 
     // The quarters of a cell, on the grid of the next level.
-    fn quarters(&self, x: [u64; 3], y: [u64; 3]) -> Vec<([u64; 3], [u64; 3])> {
+    pub fn quarters(&self, x: [u64; 3], y: [u64; 3]) -> Vec<([u64; 3], [u64; 3])> {
         if self.kind != 6 {
             let (a, b) = (2 * x[0], 2 * y[0]);
             return vec![([a; 3], [b; 3]), ([a + 1; 3], [b; 3]), ([a; 3], [b + 1; 3]), ([a + 1; 3], [b + 1; 3])];
@@ -215,56 +204,6 @@ impl Element {
         };
         let (fx, fy) = (four(x), four(y));
         (0..4).map(|k| (fx[k], fy[k])).collect()
-    }
-
-    // The least number of cells in a cutting of this cell, no deeper than `left` more levels, whose cells all pass: both ways are tried.
-    fn least(&self, d: u32, left: u32, x: [u64; 3], y: [u64; 3]) -> Option<u64> {
-        let keep = if self.passes(&self.cell_values(d, &x, &y)) { Some(1) } else { None };
-        let mut cut = None;
-        if left > 0 {
-            cut = Some(0);
-            for (a, b) in self.quarters(x, y) {
-                let more = self.least(d + 1, left - 1, a, b);
-                cut = match (cut, more) {
-                    (Some(s), Some(t)) => Some(s + t),
-                    _ => None,
-                };
-            }
-        }
-        match (keep, cut) {
-            (Some(a), Some(b)) => Some(a.min(b)),
-            (a, None) => a,
-            (None, b) => b,
-        }
-    }
-
-    // The first bad point of a level by j, then i.
-    fn first_bad(&self, d: u32) -> Option<(u64, u64)> {
-        let w = 1u64 << d;
-        for j in 0..=w {
-            for i in 0..=w {
-                if self.on_grid(d, i, j) && self.grid_value(d, i, j) <= 0 {
-                    return Some((i, j));
-                }
-            }
-        }
-        None
-    }
-
-    // Level by level.
-    pub fn verdict(&self) -> Verdict {
-        let mut open = 0;
-        for d in 0..=self.limit as u32 {
-            open = self.cells(d).iter().filter(|(x, y)| !self.passes(&self.cell_values(d, x, y))).count() as u64;
-            if open == 0 {
-                let cells = self.least(0, d, [0, 1, 0], [0, 0, 1]).expect("a passing level is a cutting");
-                return Verdict { word: "valid", level: d, i: 0, j: 0, value: 0, cells };
-            }
-            if let Some((i, j)) = self.first_bad(d) {
-                return Verdict { word: "invalid", level: d, i, j, value: self.grid_value(d, i, j), cells: 0 };
-            }
-        }
-        Verdict { word: "undecided", level: self.limit as u32, i: 0, j: 0, value: 0, cells: open }
     }
 }
 

@@ -1,25 +1,32 @@
 // An independent judge: it makes sets of elements, blocks, mesh texts and texts of records from fixed seeds, and writes what the checker
 // must answer to them.
-//   independent DIR    writes DIR/calls.txt, DIR/lists.txt, DIR/meshes.txt and DIR/packs.txt
-//   independent -      answers the lines `mesh ..` and `text ..` of standard input, a line each
-// A line of calls.txt, meshes.txt and packs.txt is `a line for the program calls -> its answer`; one of lists.txt is `a block in hex ->
-// what the program verdicts prints, its lines joined by " / "`.
+//   independent DIR    writes calls.txt, floors.txt, lists.txt, floorlists.txt, meshes.txt and packs.txt in DIR
+//   independent -      answers the lines `floor ..`, `mesh ..` and `text ..` of standard input, a line each
+// A line of calls.txt, floors.txt, meshes.txt and packs.txt is `a line for the program calls -> its answer`; one of lists.txt is `a block
+// in hex -> what the program verdicts prints, its lines joined by " / "`, and one of floorlists.txt has the floor before the block.
 
 mod block;
+mod blocks;
 mod element;
+mod floor;
+mod floors;
 mod mesh;
 mod pack;
 mod packs;
 mod sets;
 mod texts;
+mod verdict;
 mod words;
 
-use block::{block_bytes, check, hex, list, stored, Record};
+use block::{block_bytes, check, hex, list, stored};
+use blocks::{damaged, records};
 use element::{code, Element};
+use floor::{floor_list, floor_verdict};
 use mesh::append_mesh;
 use pack::append_text;
 use sets::{elements, Random};
 use texts::Question;
+use verdict::{Judged, Verdict};
 use std::fmt::Write as _;
 use std::sync::{Arc, Mutex};
 
@@ -27,15 +34,29 @@ fn words<T: ToString>(l: &[T]) -> String {
     l.iter().map(|x| format!(" {}", x.to_string())).collect()
 }
 
+// The answer of `calls` that a verdict or a code is.
+fn verdict_answer(told: Result<Verdict, u8>) -> String {
+    match told {
+        Ok(v) => format!("0 {} {} {} {} {} {}", v.word, v.level, v.i, v.j, v.value, v.cells),
+        Err(c) => format!("{} - 0 0 0 0 0", c),
+    }
+}
+
 fn verdict_line(e: &Element) -> String {
-    let answer = match code(e, true) {
-        0 => {
-            let v = e.verdict();
-            format!("0 {} {} {} {} {} {}", v.word, v.level, v.i, v.j, v.value, v.cells)
-        }
-        c => format!("{} - 0 0 0 0 0", c),
+    let told = match code(e, true) {
+        0 => Ok(e.verdict()),
+        c => Err(c),
     };
-    format!("verdict {} {}{} -> {}\n", e.kind, e.limit, words(&e.coords), answer)
+    format!("verdict {} {}{} -> {}\n", e.kind, e.limit, words(&e.coords), verdict_answer(told))
+}
+
+fn floor_line(q: &floors::Question) -> String {
+    let e = &q.element;
+    format!("floor {} {} {}{} -> {}\n", q.p, e.kind, e.limit, words(&e.coords), verdict_answer(floor_verdict(q.p, e)))
+}
+
+fn floor_list_line((p, b): &(u8, Vec<u8>)) -> String {
+    format!("{} {} -> {}\n", p, hex(b), floor_list(*p, b).join(" / "))
 }
 
 fn control_lines(e: &Element, room: u64) -> String {
@@ -47,45 +68,6 @@ fn control_lines(e: &Element, room: u64) -> String {
     }
     let c = words(&e.coords);
     format!("control {} {}{} -> {}\nbounds {}{} -> {}\n", room, e.kind, c, a, e.kind, c, b)
-}
-
-// Some records with rising ids.
-fn records(r: &mut Random, from: &[Element], count: usize) -> Vec<Record> {
-    let mut id = r.range(0, 9) as u32;
-    let mut out = Vec::new();
-    while out.len() < count {
-        let element = from[(r.next() % from.len() as u64) as usize].clone();
-        // an element of a block is one that `verdict` accepts, and not a slow one
-        if code(&element, true) != 0 || element.limit > 4 {
-            continue;
-        }
-        out.push(Record { id, element });
-        id += r.range(1, 1_000_000) as u32;
-    }
-    out
-}
-
-// A block with some byte or its length changed.
-fn damaged(r: &mut Random, b: &[u8]) -> Vec<u8> {
-    let mut out = b.to_vec();
-    match r.range(0, 5) {
-        0 => out.truncate((r.next() % (b.len() as u64 + 1)) as usize),
-        1 => out.extend([0; 80]),
-        2 => {
-            let at = (r.next() % 9.min(b.len() as u64)) as usize;
-            out[at] ^= 1 << r.range(0, 7);
-        }
-        3 if b.len() > 9 => {
-            // the head of a record
-            let k = r.next() as usize % ((b.len() - 9) / 80);
-            out[9 + 80 * k + r.range(0, 7) as usize] ^= 1 << r.range(0, 7);
-        }
-        _ => {
-            let at = (r.next() % b.len() as u64) as usize;
-            out[at] = r.next() as u8;
-        }
-    }
-    out
 }
 
 fn record_words(b: &[u8], k: usize) -> String {
@@ -120,7 +102,7 @@ fn block_lines(b: &[u8], r: &mut Random) -> String {
 }
 
 // The lines of `f` over the list, on two threads, in order.
-fn in_parallel(list: Vec<Element>, f: fn(&Element) -> String) -> Vec<String> {
+fn in_parallel<T: Send + Sync + 'static>(list: Vec<T>, f: fn(&T) -> String) -> Vec<String> {
     let n = list.len();
     let list = Arc::new(list);
     let next = Arc::new(Mutex::new(0));
@@ -180,10 +162,15 @@ fn unhex(h: &str) -> Option<Vec<u8>> {
     h.as_bytes().chunks(2).map(|c| u8::from_str_radix(std::str::from_utf8(c).ok()?, 16).ok()).collect()
 }
 
-// The answer to a line that `mesh_question` or `text_question` wrote.
+// The answer to a line `floor ..`, `mesh ..` or `text ..`.
 fn answer(line: &str) -> Option<String> {
     let w: Vec<&str> = line.split(' ').collect();
     match w[..] {
+        ["floor", p, kind, limit, ref coords @ ..] => {
+            let coords: Option<Vec<i32>> = coords.iter().map(|x| x.parse().ok()).collect();
+            let e = Element { kind: kind.parse().ok()?, limit: limit.parse().ok()?, coords: coords? };
+            Some(verdict_answer(floor_verdict(p.parse().ok()?, &e)))
+        }
         ["mesh", limit, used, buffer, text] => Some(mesh_answer(&Question {
             limit: limit.parse().ok()?,
             used: used.parse().ok()?,
@@ -213,8 +200,10 @@ fn main() {
         calls += &control_lines(e, room);
     }
     let mut lists = String::new();
+    // an element of these blocks is one that `verdict` accepts, and not a slow one
+    let fits = |e: &Element| code(e, true) == 0 && e.limit <= 4;
     for size in [0, 1, 2, 3, 4, 5, 8, 13, 800] {
-        let b = block_bytes(&records(&mut r, &all, size));
+        let b = block_bytes(&records(&mut r, &all, size, fits));
         lists += &format!("{} -> {}\n", hex(&b), list(&b).join(" / "));
         if size > 20 {
             continue;
@@ -230,6 +219,11 @@ fn main() {
     calls += &verdicts.concat();
     std::fs::write(format!("{}/calls.txt", dir), calls).expect("calls.txt");
     std::fs::write(format!("{}/lists.txt", dir), lists).expect("lists.txt");
+    let asked = floors::questions();
+    let floor_lists = in_parallel(floors::blocks(&asked), floor_list_line);
+    std::fs::write(format!("{}/floorlists.txt", dir), floor_lists.concat()).expect("floorlists.txt");
+    let floors = in_parallel(asked, floor_line);
+    std::fs::write(format!("{}/floors.txt", dir), floors.concat()).expect("floors.txt");
     let meshes: String = texts::questions().iter().map(|q| format!("{} -> {}\n", mesh_question(q), mesh_answer(q))).collect();
     std::fs::write(format!("{}/meshes.txt", dir), meshes).expect("meshes.txt");
     let packs: String = packs::questions().iter().map(|q| format!("{} -> {}\n", text_question(q), text_answer(q))).collect();

@@ -5,7 +5,7 @@
 --   <-cases, compareℤ              : one of two, and one of three, holds
 --   +ℤ-mono, +ℤ-mono-<             : sums
 --   0≤-nat, nat-0≤, 0<-nat, nat-0<, 0≤+, 0≤*, 0<+≤, 0≤+<, 0<*, 0≤square   : signs
---   0≤-sub, sub-0≤, 0<-sub, sub-0< : by the difference
+--   0≤-sub, sub-0≤, 0<-sub, sub-0<, ≤0-sub, sub-≤0 : by the difference
 --   *ℤ-mono, *ℤ-mono-<             : products by what is not negative
 --   +ℤ-cancel-≤, *ℤ-cancel-≤, *ℤ-cancel-<, *ℤ-cancel, positive-factor, positive-transfer, nonpositive-transfer : cancelling
 -- Assumes nothing.
@@ -193,6 +193,13 @@ pub sub-0< : (a b : ℤ) → pos 0 <ℤ (b -ℤ a) → a <ℤ b
 sub-0< a b h =
     let (n, e) = 0<-nat h in let one-more : suc n ≡ 1 + n = omega arith in
     suc-< a b (above-≤ (a +ℤ pos 1) b n (sym (add-sub a b) ∙ ap (λ x. a +ℤ x) (e ∙ ap pos one-more) ∙ sym (+ℤ-assoc a (pos 1) (pos n))))
+
+pub ≤0-sub : {a b : ℤ} → a ≤ℤ b → (a -ℤ b) ≤ℤ pos 0
+≤0-sub {a} {b} h = subst (λ x. (a -ℤ b) ≤ℤ x) (+ℤ-invr b) (+ℤ-mono h (≤ℤ-refl (negℤ b)))
+
+pub sub-≤0 : (a b : ℤ) → (a -ℤ b) ≤ℤ pos 0 → a ≤ℤ b
+sub-≤0 a b h =
+    subst (λ x. x ≤ℤ b) (-ℤ-+ℤ-cancel a b) (subst (λ x. (a -ℤ b +ℤ b) ≤ℤ x) (+ℤ-idl b) (+ℤ-mono h (≤ℤ-refl b)))
 
 -- a positive number is at least 1
 pub 0<-one : {z : ℤ} → pos 0 <ℤ z → pos 0 ≤ℤ (z -ℤ pos 1)

@@ -1,6 +1,5 @@
 -- The order of an append, test by test.
 --   allows-refused, allows-allowed : the answer of the test of an append, by its code
---   coded-then     : the code of two orders, the first without a fault
 --   given l room id n level xs == the order of the element and of its place behind the block l
 --   block-refused, given-refused, given-accepted : the order over a block, from its parts
 --   used-refused, room-refused, buffer-refused, append-accepted : the order of `append_record`, from its parts
@@ -14,11 +13,11 @@ use native.Mathlib.Nat as N
 use native.Mathlib.Omega.{arith}
 use lib.IntN.{ℤ}
 use lib.ListN.{length, take}
-use Rattle.element.specs.Refusals.{Codes, Refused, Accepted, Coded, refused, accepted, verdictCodes}
-use Rattle.element.proofs.Refusals.{refused-some}
+use Rattle.element.specs.Refusals.{Codes, _then_, Refused, Accepted, verdictCodes}
+use Rattle.element.proofs.Refusals.{refused-some, refused-then, past-then, accepted-then, then-accepted, then-refused}
 use Rattle.block.specs.declared.Checked.{Checked}
-use Rattle.block.specs.Faults.{Fault, _then_, naming, blockCodes}
-use Rattle.block.proofs.Orders.{refused-then, past-then, accepted-then, then-accepted, then-refused, refused-of, accepted-of, of-accepted, of-refused}
+use Rattle.block.specs.Faults.{Fault, naming, blockCodes}
+use Rattle.block.proofs.Orders.{refused-of, accepted-of, of-accepted, of-refused}
 use Rattle.block.proofs.Walk.{block-some}
 use Rattle.append.specs.Append.{newCodes, roomCodes, bufferCodes, appendCodes}
 use Rattle.append.specs.Calls.{IsAllowed, Allows}
@@ -30,10 +29,6 @@ allows-refused o l r (inr p) h = absurd (h (ap (λ (r : Checked). r .code) (p .a
 pub allows-allowed : (o : Codes Fault) (l : List ℕ) (r : Checked) → Allows o l r → r .code ≡ 0 → IsAllowed o l r
 allows-allowed o l r (inl p) h = absurd (p .some h)
 allows-allowed o l r (inr p) h = p
-
-pub coded-then : (o p : Codes ℕ) (c : ℕ) → Accepted o → Coded p c → Coded (o then p) c
-coded-then o p c a (refused r) = refused (past-then o p c a r)
-coded-then o p c a (accepted w e) = accepted (accepted-then o p a w) e
 
 module _ (l : List ℕ) (room id n level : ℕ) (xs : List ℤ) where
   abbrev pub given : Codes ℕ

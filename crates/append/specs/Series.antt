@@ -17,11 +17,10 @@ use mathlib.Core.List.{List, [], _∷_, map}
 use Prim.Native.Nat.{ℕ, suc, _+_, _-_, _*_, _^_, _<_}
 use lib.IntN.{ℤ}
 use lib.ListN.{length, take}
-use Rattle.element.specs.Refusals.{Codes, Refused, Accepted, verdictCodes}
+use Rattle.element.specs.Refusals.{Codes, _then_, Refused, Accepted, verdictCodes}
 use Rattle.endian.specs.Numbers.{over}
 use Rattle.record.specs.declared.Record.{Record}
 use Rattle.block.specs.Block.{recordsBytes, countOf}
-use Rattle.block.specs.Faults.{_then_}
 use Rattle.append.specs.declared.Appended.{Appended}
 use Rattle.append.specs.Append.{newRecord, followCodes}
 use Rattle.append.specs.Calls.{withCount, Appends}

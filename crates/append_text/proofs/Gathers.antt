@@ -15,8 +15,8 @@ use native.Mathlib.Omega.{arith}
 use borrow.Author.Tests.{ltb-true, ltb-false}
 use lib.Dec.{ltb}
 use lib.ListN.{length, drop, length-append, length-drop, drop-of-length-le}
+use Rattle.element.proofs.Refusals.{then-accepted}
 use Rattle.element.specs.Refusals.{Accepted}
-use Rattle.block.proofs.Orders.{then-accepted}
 use Rattle.append.specs.Series.{Stops}
 use Rattle.append.proofs.Fronts.{passes-append, passes-few}
 use Rattle.batch.specs.declared.Tally.{Tally}

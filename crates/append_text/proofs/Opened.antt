@@ -12,12 +12,12 @@ use mathlib.Core.Logic.{inl, inr}
 use Prim.Native.Nat.{ℕ, _≤_, _<_}
 use native.Mathlib.Omega.{arith}
 use lib.ListN.{length, take}
-use Rattle.element.specs.Refusals.{Codes, no-more, code, Refused, Accepted}
+use Rattle.element.proofs.Refusals.{refused-then, past-then, accepted-then, then-accepted}
+use Rattle.element.specs.Refusals.{Codes, no-more, code, _then_, Refused, Accepted}
 use Rattle.block.specs.Block.{countOf}
 use Rattle.block.specs.declared.Checked.{Checked}
 use Rattle.block.specs.Calls.{Checks}
-use Rattle.block.specs.Faults.{Fault, _then_, blockCodes}
-use Rattle.block.proofs.Orders.{refused-then, past-then, accepted-then, then-accepted}
+use Rattle.block.specs.Faults.{Fault, blockCodes}
 use Rattle.block.proofs.Walk.{block-some}
 use Rattle.append.specs.Append.{bufferCodes}
 use Rattle.record_text.specs.declared.Place.{Place}

@@ -18,8 +18,8 @@ use mathlib.Core.Logic.{_⊎_}
 use Prim.Native.Nat.{ℕ, _+_, _*_}
 use lib.Dec.{eqb}
 use lib.ListN.{length}
-use Rattle.element.specs.Refusals.{Codes, no-more, code, Refused, Accepted}
-use Rattle.block.specs.Faults.{Fault, _then_}
+use Rattle.element.specs.Refusals.{Codes, no-more, code, _then_, Refused, Accepted}
+use Rattle.block.specs.Faults.{Fault}
 use Rattle.append.specs.Append.{bufferCodes}
 use Rattle.append.specs.Calls.{Appends}
 use Rattle.append.specs.Series.{Series}

@@ -9,10 +9,10 @@ use native.Mathlib.Nat as N
 use native.Mathlib.Numerals.{add-one}
 use native.Mathlib.Omega.{arith}
 use lib.ListN.{length}
+use Rattle.element.proofs.Refusals.{then-accepted}
 use Rattle.element.specs.Refusals.{Refused, Accepted, verdictCodes}
 use Rattle.endian.specs.Numbers.{over}
 use Rattle.record.specs.Record.{recordBytes}
-use Rattle.block.proofs.Orders.{then-accepted}
 use Rattle.append.specs.Append.{followCodes}
 use Rattle.append.specs.Series.{Given, given, nextCodes, here, empty, first}
 use Rattle.append.proofs.Turns.{short-given}

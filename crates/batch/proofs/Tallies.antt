@@ -13,13 +13,13 @@ use mathlib.Core.Logic.{inl, inr}
 use Prim.Native.Nat.{ℕ, suc, _+_, _*_, _≤_}
 use native.Mathlib.Omega.{arith}
 use lib.ListN.{length, take, drop, length-append, take-append-drop}
+use Rattle.element.proofs.Refusals.{then-accepted}
 use Rattle.element.specs.Refusals.{verdictCodes}
 use Rattle.endian.specs.Numbers.{over}
 use Rattle.endian.proofs.Writes.{length-over, over-more}
 use Rattle.record.specs.Record.{recordBytes}
 use Rattle.block.specs.Block.{recordsBytes}
 use Rattle.block.proofs.Blocks.{records-more}
-use Rattle.block.proofs.Orders.{then-accepted}
 use Rattle.append.specs.Append.{followCodes}
 use Rattle.append.specs.Series.{Given, given, records, lowAfter, Carried, Stops, here, later, Passes, empty, first}
 use Rattle.append.proofs.Fronts.{carried-none, passes-append, stops-append}

@@ -16,14 +16,14 @@ use borrow.Author.Tests.{le-ltb}
 use lib.Dec.{ltb}
 use lib.ListN.{length}
 use Rattle.element.specs.Refusals.{Codes, no-more, code, Refused, Accepted}
-use Rattle.element.proofs.Refusals.{refused-unique, refused-accepted, refused-some}
+use Rattle.element.proofs.Refusals.{refused-unique, refused-accepted, refused-some, refused-then, past-then, accepted-then, then-accepted, then-refused}
 use Rattle.record.specs.Record.{blank}
 use Rattle.block.specs.declared.Checked.{Checked}
 use Rattle.block.specs.declared.Fetched.{Fetched}
 use Rattle.block.specs.Block.{countOf, place, recordAt}
 use Rattle.block.specs.Faults.{Fault, naming, blockCodes, fetchCodes}
 use Rattle.block.specs.Calls.{NoCount, Counted, Checks, fetched, IsRecord, Fetches, storedRecord}
-use Rattle.block.proofs.Orders.{refused-then, past-then, accepted-then, then-accepted, then-refused, of-refused}
+use Rattle.block.proofs.Orders.{of-refused}
 use Rattle.block.proofs.Walk.{block-some}
 
 -- the answer that names a fault

@@ -15,10 +15,10 @@ use native.Mathlib.Numerals.{add-one}
 use native.Mathlib.Omega.{arith}
 use native.Mathlib.Decide.{decLe}
 use Rattle.element.specs.Refusals.{Codes, Refused, Accepted}
-use Rattle.element.proofs.Refusals.{refused-some}
+use Rattle.element.proofs.Refusals.{refused-some, refused-then, past-then, accepted-then, then-accepted, then-refused}
 use Rattle.block.specs.Block.{countOf, recordAt}
 use Rattle.block.specs.Faults.{Fault, naming, headerCodes, lowest, codesAt, recordsCodes, blockCodes}
-use Rattle.block.proofs.Orders.{refused-then, past-then, accepted-then, then-accepted, refused-of, accepted-of, of-accepted, then-refused, of-refused}
+use Rattle.block.proofs.Orders.{refused-of, accepted-of, of-accepted, of-refused}
 
 pub record Passed (l : List ℕ) (k : ℕ) : Type 0 where
   pub each : (j : ℕ) → j < k → Accepted (codesAt l j)

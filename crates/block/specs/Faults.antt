@@ -1,7 +1,6 @@
 -- The faults of a block and their order (01, "Codes and what they leave": "Block: 6, 7, 8, then record by record 1, 2, 9, 4, 10. Fetch:
 -- block, 12").
 --   Fault           == what names a fault: a code, and the record number ("for faults in a stored record, else 0")
---   o then p        == the order o, and then the order p
 --   naming k o      == the faults of o, named with the record number k
 --   NotBlock, OtherVersion, WrongSize l == codes 6, 7, 8
 --   lowest l k      == the least id that record k may have
@@ -13,7 +12,7 @@ use mathlib.Core.List.{List, [], _∷_}
 use mathlib.Core.Logic.{_⊎_}
 use Prim.Native.Nat.{ℕ, zero, suc, _+_, _*_, _≤_, _<_}
 use lib.ListN.{length, take}
-use Rattle.element.specs.Refusals.{Codes, no-more, code}
+use Rattle.element.specs.Refusals.{Codes, no-more, code, _then_}
 use Rattle.endian.specs.Numbers.{number, part}
 use Rattle.record.specs.Faults.{recordCodes}
 use Rattle.block.specs.Block.{countOf, place, recordAt}
@@ -21,11 +20,6 @@ use Rattle.block.specs.Block.{countOf, place, recordAt}
 pub record Fault : Type 0 where
   pub code : ℕ
   pub number : ℕ
-
-infixr 20 _then_
-abbrev pub _then_ : {A : Type 0} → Codes A → Codes A → Codes A
-no-more then p = p
-(code a F o) then p = code a F (o then p)
 
 abbrev pub naming : ℕ → Codes ℕ → Codes Fault
 naming k no-more = no-more

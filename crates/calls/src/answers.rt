@@ -16,6 +16,9 @@ pub fn answer(line: &[u8], out: &mut [u8]) -> usize {
     if is_word(line, 0, end, b"verdict") {
         return element_lines::verdict_line(line, at, out);
     }
+    if is_word(line, 0, end, b"floor") {
+        return element_lines::floor_line(line, at, out);
+    }
     if is_word(line, 0, end, b"fetch") {
         return block_lines::fetch_line(line, at, out);
     }

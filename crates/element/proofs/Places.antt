@@ -1,16 +1,16 @@
 -- Places of an element as weights of its shape, and J there.
 --   place-point, place-of : the weights of a place are a point's, and every point has a place
 --   control-is-J     : the control sum at a place is the scaled J there, times the weight of the place and fold²
---   scaled-is-J      : and so is the value of the kind's form
---   positive-jacobian : J is positive where the value is
+--   scaled-is-J      : and so is the value of the kind's form: the control values mean J
+--   positive-there   : what values mean is positive where their form is
 --   grid-place, place-grid : the grid points are places, and the places at grid points are on the grid
 --   grid-on, on-grid : the grid points of a kind are those of its shape
 --   grid-rows, rows-grid : and so are their weights
 --   scale-is         : the scale of level d is that of level 0 times the weight of a place over 2^d
 --   weight-times     : the weight of a place over n times as many parts
---   grid-is-J        : the value at a grid point is the scaled J there, at the scale of the level
+--   grid-is          : the value at a grid point is what the values mean there, at the scale of the level
 --   bad-value, value-bad   : a point is bad exactly when the value is not positive
---   shows-value, value-shows : the scaled J is the value
+--   shows-value, value-shows : what is shown is the value
 -- For all kinds. Assumes nothing.
 use mathlib.Core.Path.{_≡_, refl, sym, _∙_, ap, ap₂, subst}
 use mathlib.Core.List.{List, [], _∷_, map}
@@ -26,17 +26,17 @@ use Rattle.algebra.proofs.Ring.{1-*ℤ}
 use Rattle.algebra.proofs.Order.{0<pos, *ℤ-cancel, positive-transfer, nonpositive-transfer}
 use Rattle.algebra.proofs.Solve.{solve}
 use Rattle.forms.specs.Rows.{Row, total}
-use Rattle.forms.specs.Shapes.{Shape, scaled, Sized, Heavy, Point}
+use Rattle.forms.specs.Shapes.{scaled, Heavy, Point}
 use Rattle.forms.specs.Grids as G
 use Rattle.forms.specs.Triangles as T
 use Rattle.forms.specs.Quads as Q
 use Rattle.forms.proofs.Triangles.{rows3}
 use Rattle.forms.proofs.Quads.{rows22}
 use Rattle.element.specs.Kinds.{Kind, six, eight, nine, scale}
-use Rattle.element.specs.Places.{InTriangle, InQuad, Place, cube, weightOf, OnGrid, QuadAt, AtGrid}
-use Rattle.element.specs.Jacobian.{jacobian, fold, factor, Bad, Shows}
-use Rattle.element.specs.Control.{controlValues, sum6, sum9, controlSum}
-use Rattle.element.specs.Cells.{shapeOf, quadRows, rowsOf}
+use Rattle.element.specs.Places.{InQuad, Place, cube, weightOf, OnGrid, QuadAt, AtGrid}
+use Rattle.element.specs.Jacobian.{jacobian, fold, factor, BadBy, ShowsBy}
+use Rattle.element.specs.Control.{controlValues, sum9, controlSum}
+use Rattle.element.specs.Cells.{shapeOf, quadRows, rowsOf, Means}
 use Rattle.element.proofs.Sums.{sum6-is-J, sum8-is-J, sum9-is-J, scaled-sum6, scaled-sum9}
 
 -- ---- places as weights
@@ -101,8 +101,7 @@ control-is-J six xs x = 1-*ℤ (controlSum six (controlValues six xs) x) ∙ sum
 control-is-J eight xs x = sum8-is-J xs (x .p) (x .m) (x .q) (x .n)
 control-is-J nine xs x = 1-*ℤ (controlSum nine (controlValues nine xs) x) ∙ sum9-is-J xs (x .p) (x .m) (x .q) (x .n)
 
-pub scaled-is-J : (k : Kind) (xs : List ℤ) (x : Place k)
-    → pos (fold k * fold k) *ℤ scaled (shapeOf k) (controlValues k xs) (rowsOf k x) ≡ pos (scale k 0) *ℤ jacobian k xs x
+pub scaled-is-J : (k : Kind) (xs : List ℤ) → Means k (jacobian k xs) (controlValues k xs)
 scaled-is-J k xs x = ap (λ z. pos (fold k * fold k) *ℤ z) (scaled-control k (controlValues k xs) x) ∙ control-is-J k xs x
 
 pub fold-above : (k : Kind) → 0 < fold k * fold k
@@ -127,11 +126,11 @@ scale-above six = lit< tt
 scale-above eight = lit< tt
 scale-above nine = lit< tt
 
-pub positive-jacobian : (k : Kind) (xs : List ℤ) (x : Place k)
-    → pos 0 <ℤ scaled (shapeOf k) (controlValues k xs) (rowsOf k x)
-    → pos 0 <ℤ jacobian k xs x
-positive-jacobian k xs x h =
-    positive-transfer (fold k * fold k) (scale k 0) (scaled (shapeOf k) (controlValues k xs) (rowsOf k x)) (jacobian k xs x) (fold-above k) (scaled-is-J k xs x) h
+pub positive-there : (k : Kind) (f : Place k → ℤ) (c : List ℤ) → Means k f c
+    → (x : Place k)
+    → pos 0 <ℤ scaled (shapeOf k) c (rowsOf k x)
+    → pos 0 <ℤ f x
+positive-there k f c m x h = positive-transfer (fold k * fold k) (scale k 0) (scaled (shapeOf k) c (rowsOf k x)) (f x) (fold-above k) (m x) h
 
 -- ---- grid points
 quad-grid : (d i j : ℕ) → (i ≤ 2 ^ d) × (j ≤ 2 ^ d) → (x : InQuad) × QuadAt d i j x
@@ -252,41 +251,42 @@ grow-both a b w x y e = out a x ∙ ap (λ z. z *ℤ pos w) e ∙ sym (out b y)
     out : (a : ℕ) (x : ℤ) → pos (a * w) *ℤ x ≡ pos a *ℤ x *ℤ pos w
     out a x = solve (pos a ∷ pos w ∷ x ∷ []) (var 0 ⊗ var 1 ⊗ var 2) (var 0 ⊗ var 2 ⊗ var 1) tt
 
-abbrev pub gridValue : Kind → List ℤ → ℕ → ℕ → ℕ → ℤ
-gridValue k xs d i j = scaled (shapeOf k) (controlValues k xs) (G.gridPoint (shapeOf k) d i j)
+-- ---- at a grid point, for any values c that mean numbers f at places: J is one such, 100·J - p·S another
+module _ (k : Kind) (f : Place k → ℤ) (c : List ℤ) (m : Means k f c) (d i j : ℕ) where
+  abbrev gridValue : ℤ
+  gridValue = scaled (shapeOf k) c (G.gridPoint (shapeOf k) d i j)
 
-module _ (k : Kind) (xs : List ℤ) (d i j : ℕ) where
-  value-here : (x : Place k) → AtGrid k d i j x → scaled (shapeOf k) (controlValues k xs) (rowsOf k x) ≡ gridValue k xs d i j
-  value-here x a = ap (scaled (shapeOf k) (controlValues k xs)) (grid-rows k d i j x a)
+  value-here : (x : Place k) → AtGrid k d i j x → scaled (shapeOf k) c (rowsOf k x) ≡ gridValue
+  value-here x a = ap (scaled (shapeOf k) c) (grid-rows k d i j x a)
 
-  pub grid-is-J : (x : Place k) → AtGrid k d i j x → pos (factor k x) *ℤ gridValue k xs d i j ≡ pos (scale k d) *ℤ jacobian k xs x
-  grid-is-J x a =
-      grow-both (fold k * fold k) (scale k 0) (weightOf k x) (gridValue k xs d i j) (jacobian k xs x)
-      (ap (λ z. pos (fold k * fold k) *ℤ z) (sym (value-here x a)) ∙ scaled-is-J k xs x)
-      ∙ ap (λ (n : ℕ). pos n *ℤ jacobian k xs x) (ap (λ (n : ℕ). scale k 0 * n) (grid-weight k d i j x a) ∙ sym (scale-is k d))
+  pub grid-is : (x : Place k) → AtGrid k d i j x → pos (factor k x) *ℤ gridValue ≡ pos (scale k d) *ℤ f x
+  grid-is x a =
+      grow-both (fold k * fold k) (scale k 0) (weightOf k x) gridValue (f x)
+      (ap (λ z. pos (fold k * fold k) *ℤ z) (sym (value-here x a)) ∙ m x)
+      ∙ ap (λ (n : ℕ). pos n *ℤ f x) (ap (λ (n : ℕ). scale k 0 * n) (grid-weight k d i j x a) ∙ sym (scale-is k d))
 
-  pub bad-value : Bad k xs d i j → G.OnGrid (shapeOf k) d i j × (gridValue k xs d i j ≤ℤ pos 0)
+  pub bad-value : BadBy k f d i j → G.OnGrid (shapeOf k) d i j × (gridValue ≤ℤ pos 0)
   bad-value b = (
     grid-on k d i j (place-grid k d i j (b .place) (b .at-point)),
-    nonpositive-transfer (scale k 0) (fold k * fold k) (jacobian k xs (b .place)) (gridValue k xs d i j) (fold-above k)
-        (sym (scaled-is-J k xs (b .place)) ∙ ap (λ z. pos (fold k * fold k) *ℤ z) (value-here (b .place) (b .at-point)))
+    nonpositive-transfer (scale k 0) (fold k * fold k) (f (b .place)) gridValue (fold-above k)
+        (sym (m (b .place)) ∙ ap (λ z. pos (fold k * fold k) *ℤ z) (value-here (b .place) (b .at-point)))
         (b .not-positive),
   )
 
-  pub value-bad : G.OnGrid (shapeOf k) d i j → gridValue k xs d i j ≤ℤ pos 0 → Bad k xs d i j
+  pub value-bad : G.OnGrid (shapeOf k) d i j → gridValue ≤ℤ pos 0 → BadBy k f d i j
   value-bad g h =
       let (x, a) = grid-place k d i j (on-grid k d i j g) in
       record {
         place = x;
         at-point = a;
-        not-positive = nonpositive-transfer (fold k * fold k) (scale k 0) (scaled (shapeOf k) (controlValues k xs) (rowsOf k x)) (jacobian k xs x)
-            (scale-above k) (scaled-is-J k xs x) (rw (value-here x a) h);
+        not-positive = nonpositive-transfer (fold k * fold k) (scale k 0) (scaled (shapeOf k) c (rowsOf k x)) (f x)
+            (scale-above k) (m x) (rw (value-here x a) h);
       }
 
-  pub value-shows : OnGrid k d i j → Shows k xs d i j (gridValue k xs d i j)
-  value-shows o = let (x, a) = grid-place k d i j o in record { place = x; at-point = a; shown = grid-is-J x a }
+  pub value-shows : OnGrid k d i j → ShowsBy k f d i j gridValue
+  value-shows o = let (x, a) = grid-place k d i j o in record { place = x; at-point = a; shown = grid-is x a }
 
-  pub shows-value : (z : ℤ) → Shows k xs d i j z → z ≡ gridValue k xs d i j
+  pub shows-value : (z : ℤ) → ShowsBy k f d i j z → z ≡ gridValue
   shows-value z s =
-      let f : ℤ = pos (factor k (s .place)) in let v : ℤ = gridValue k xs d i j in
-      *ℤ-cancel z v f (0<pos (factor-above k (s .place))) (*ℤ-comm z f ∙ s .shown ∙ sym (grid-is-J (s .place) (s .at-point)) ∙ *ℤ-comm f v)
+      let n : ℤ = pos (factor k (s .place)) in
+      *ℤ-cancel z gridValue n (0<pos (factor-above k (s .place))) (*ℤ-comm z n ∙ s .shown ∙ sym (grid-is (s .place) (s .at-point)) ∙ *ℤ-comm n gridValue)

@@ -1,17 +1,21 @@
 -- "The first fault in this order counts": one code at most, and none where the call is accepted.
 --   refused-unique   : two codes that the order gives are the same
 --   refused-accepted : an order that refuses does not accept
+--   refused-then, past-then : a code of the first of two orders, and one of the second
+--   accepted-then, then-accepted : no fault of both is no fault of each
+--   then-refused     : a code of both is one of the first or of the second
 --   coded-here, coded-past, coded-end : the code of a call, test by test
+--   coded-first, coded-then : the code of two orders, by the first, and by the second where the first has no fault
 --   refused-some, coded-some, coded-none : codes that are not 0, and those that are; `numbered o` says that no fault has the code 0
 -- For every order of codes. Assumes nothing.
 use mathlib.Core.Path.{_≡_, refl, sym, _∙_}
-use mathlib.Core.Logic.{_⊎_, inl, inr}
+use mathlib.Core.Logic.{_⊎_, inl, inr, ⊎-elim}
 use mathlib.Core.Bool.{Bool, true, _&&_}
 use Prim.Native.Nat.{ℕ}
 use native.Mathlib.Nat as N
 use lib.Dec.{T, ltb, ltb→lt}
 use Rattle.algebra.proofs.Truth.{T-and}
-use Rattle.element.specs.Refusals.{Codes, no-more, code, Refused, Accepted, Coded, refused, accepted}
+use Rattle.element.specs.Refusals.{Codes, no-more, code, _then_, Refused, Accepted, Coded, refused, accepted}
 
 pub refused-unique : {A : Type 0} (o : Codes A) (a b : A) → Refused o a → Refused o b → a ≡ b
 refused-unique no-more a b p q = absurd p
@@ -24,6 +28,29 @@ pub refused-accepted : {A : Type 0} (o : Codes A) (a : A) → Refused o a → Ac
 refused-accepted no-more a p q = p
 refused-accepted (code n F o) a (inl (f, e)) (g, h) = g f
 refused-accepted (code n F o) a (inr (f, e)) (g, h) = refused-accepted o a e h
+
+-- ---- one order behind another
+pub refused-then : {A : Type 0} (o p : Codes A) (a : A) → Refused o a → Refused (o then p) a
+refused-then no-more p a r = absurd r
+refused-then (code c F o) p a (inl r) = inl r
+refused-then (code c F o) p a (inr (f, r)) = inr (f, refused-then o p a r)
+
+pub past-then : {A : Type 0} (o p : Codes A) (a : A) → Accepted o → Refused p a → Refused (o then p) a
+past-then no-more p a t r = r
+past-then (code c F o) p a (f, t) r = inr (f, past-then o p a t r)
+
+pub accepted-then : {A : Type 0} (o p : Codes A) → Accepted o → Accepted p → Accepted (o then p)
+accepted-then no-more p t u = u
+accepted-then (code c F o) p (f, t) u = (f, accepted-then o p t u)
+
+pub then-accepted : {A : Type 0} (o p : Codes A) → Accepted (o then p) → Accepted o × Accepted p
+then-accepted no-more p t = (tt, t)
+then-accepted (code c F o) p (f, t) = let u = then-accepted o p t in ((f, u .0), u .1)
+
+pub then-refused : {A : Type 0} (o p : Codes A) (a : A) → Refused (o then p) a → Refused o a ⊎ Refused p a
+then-refused no-more p a r = inr r
+then-refused (code c F o) p a (inl r) = inl (inl r)
+then-refused (code c F o) p a (inr (f, r)) = ⊎-elim (λ q. inl (inr (f, q))) (λ q. inr q) (then-refused o p a r)
 
 -- ---- test by test
 pub coded-here : {n : ℕ} {F : Type 0} {o : Codes ℕ} → F → Coded (code n F o) n
@@ -54,3 +81,11 @@ refused-some (code n F o) c t (inr (f, r)) e = refused-some o c (T-and (ltb 0 n)
 pub coded-none : {o : Codes ℕ} {c : ℕ} → Coded o c → T (numbered o) → c ≡ 0 → Accepted o
 coded-none {o} {c} (refused r) t e = absurd (refused-some o c t r e)
 coded-none (accepted a e) t f = a
+
+-- ---- the code of two orders
+pub coded-first : (o p : Codes ℕ) (c : ℕ) → Coded o c → ¬ (c ≡ 0) → Coded (o then p) c
+coded-first o p c q h = refused (refused-then o p c (coded-some q h))
+
+pub coded-then : (o p : Codes ℕ) (c : ℕ) → Accepted o → Coded p c → Coded (o then p) c
+coded-then o p c a (refused r) = refused (past-then o p c a r)
+coded-then o p c a (accepted w e) = accepted (accepted-then o p a w) e

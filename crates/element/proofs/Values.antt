@@ -107,7 +107,7 @@ corner-shows k xs path c h =
     let (g, e) = corner-grid (shapeOf k) (shape-lawful k) path c h in
     subst (Shows k xs (length path) (cornerColumn (shapeOf k) path c) (cornerRow (shapeOf k) path c))
     (ap (scaled (shapeOf k) (controlValues k xs)) e ∙ sym (corner-value (shapeOf k) (shape-lawful k) path (controlValues k xs) c h))
-    (value-shows k xs (length path) (cornerColumn (shapeOf k) path c) (cornerRow (shapeOf k) path c) (on-grid k (length path) _ _ g))
+    (value-shows k (jacobian k xs) (controlValues k xs) (scaled-is-J k xs) (length path) (cornerColumn (shapeOf k) path c) (cornerRow (shapeOf k) path c) (on-grid k (length path) _ _ g))
 
 -- a place of the cell with the corner's weights lies at that grid point
 pub corner-point : (k : Kind) (path : List Four) (c : ℕ) (x y : Place k) → c < length (shapeOf k .corners)

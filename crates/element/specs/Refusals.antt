@@ -1,5 +1,6 @@
 -- Refusals by number, in a fixed order (01, "Codes and what they leave": "The first fault in this order counts").
 --   Codes A          == faults in their order, each with the answer that names it
+--   o then p         == the order o, and then the order p
 --   Refused o c      == c names the first fault of the order that is there
 --   Accepted o       == no fault of the order is there
 --   Coded o c        == c is the code of a call with this order: 0 when it is accepted
@@ -26,6 +27,11 @@ Refused (code n F o) c = (F × (c ≡ n)) ⊎ (¬ F × Refused o c)
 abbrev pub Accepted : {A : Type 0} → Codes A → Type 0
 Accepted no-more = Unit {0}
 Accepted (code n F o) = ¬ F × Accepted o
+
+infixr 20 _then_
+abbrev pub _then_ : {A : Type 0} → Codes A → Codes A → Codes A
+no-more then p = p
+(code a F o) then p = code a F (o then p)
 
 pub data Coded (o : Codes ℕ) (c : ℕ) : Type 0 where
   refused : Refused o c → Coded o c

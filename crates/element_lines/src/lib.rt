@@ -1,5 +1,7 @@
-// The calls on one element: `control`, `bounds`, `verdict`.
+// The calls on one element: `control`, `bounds`, `verdict`, `floor`.
 use control::Bounded;
+use floor::Profile;
+use floor::verdict_by;
 use pieces::integers;
 use pieces::naturals;
 use pieces::unknown;
@@ -7,6 +9,7 @@ use text::read::number;
 use text::read::numbers;
 use text::read::up_to;
 use text::write;
+use verdict::Judged;
 use verdict::Word;
 
 // Calls `control_values` with this buffer, and writes the code, the number of values and the values.
@@ -88,9 +91,8 @@ fn named(out: &mut [u8], code: u8, word: Word) -> usize {
     lines::name(out, space, word)
 }
 
-// Calls `verdict`, and writes the code, the verdict, the level, i, j, the value and the cells.
-fn verdict_answer(kind: u8, limit: u8, coords: &[i32], out: &mut [u8]) -> usize {
-    let told = verdict::verdict(kind, limit, coords);
+// Writes the code, the verdict, the level, i, j, the value and the cells.
+fn judged(told: Judged, out: &mut [u8]) -> usize {
     let value = told.value;
     let word = told.word;
     let head = named(out, told.code, word);
@@ -104,8 +106,8 @@ fn verdict_answer(kind: u8, limit: u8, coords: &[i32], out: &mut [u8]) -> usize 
     write::put(out, end, 10)
 }
 
-// `verdict KIND LIMIT x y ..`: `code verdict level i j value cells`.
-pub fn verdict_line(line: &[u8], at: usize, out: &mut [u8]) -> usize {
+// Calls the verdict of a profile with `KIND LIMIT x y ..`.
+fn judged_line(line: &[u8], at: usize, out: &mut [u8], by: Profile) -> usize {
     let kind = number(line, at);
     let limit = number(line, kind.next);
     let mut coords = [0; 64];
@@ -121,5 +123,20 @@ pub fn verdict_line(line: &[u8], at: usize, out: &mut [u8]) -> usize {
     if 64 < n {
         return unknown(out);
     }
-    verdict_answer(k as u8, l as u8, &coords[..n], out)
+    judged(verdict_by(by, k as u8, l as u8, &coords[..n]), out)
+}
+
+// `verdict KIND LIMIT x y ..`: `code verdict level i j value cells`.
+pub fn verdict_line(line: &[u8], at: usize, out: &mut [u8]) -> usize {
+    judged_line(line, at, out, Profile::Plain)
+}
+
+// `floor P KIND LIMIT x y ..`: the same.
+pub fn floor_line(line: &[u8], at: usize, out: &mut [u8]) -> usize {
+    let percent = number(line, at);
+    let p = up_to(percent, 255);
+    if 255 < p {
+        return unknown(out);
+    }
+    judged_line(line, percent.next, out, Profile::Floor(p as u8))
 }

@@ -6,6 +6,8 @@ pub mod Cuttings
 pub mod Shapes
 pub mod Grids
 pub mod Between
+pub mod Under
+pub mod Shifts
 pub mod Triangles
 pub mod Quads
 pub mod Polar

@@ -1,13 +1,14 @@
 -- The demands on the verdict, as theorems.
---   valid-positive      : valid: J > 0 at every rational point of the closed element
+--   valid-there         : valid: what the values mean is positive at every rational point of the closed element
+--   valid-positive      : so J > 0 there, for elements
 --   valid-least-cells   : the number of cells with valid is that of a cutting no deeper than the level reported whose cells all pass,
 --                         and the least of any such cutting, of any depth
 --   undecided-stays, stays-undecided : undecided exactly when no grid point of the limit's level is bad and some cell of that level fails
 --   limit-keeps         : a valid or invalid answer at level d is the answer under every limit of d or more
 --   judges-some         : some case always holds (no two do: Unique.antt)
 --   limit-never-alters  : so a higher limit never alters it, in any field
--- The argument once, for every faithful subject; valid-positive for elements. Assumes nothing.
-use mathlib.Core.Path.{_≡_, refl, sym, _∙_, ap, subst}
+-- The argument once, for every faithful subject. Assumes nothing.
+use mathlib.Core.Path.{_≡_, refl, sym, subst}
 use mathlib.Core.List.{List}
 use Prim.Native.Nat.{ℕ, _+_, _-_, _≤_}
 use native.Mathlib.Nat as N
@@ -21,19 +22,28 @@ use Rattle.forms.proofs.Shapes.{inherit}
 use Rattle.element.specs.Kinds.{Kind}
 use Rattle.element.specs.Places.{Place}
 use Rattle.element.specs.Jacobian.{jacobian}
-use Rattle.element.specs.Cells.{rowsOf}
-use Rattle.element.proofs.Places.{place-point, positive-jacobian}
+use Rattle.element.specs.Control.{controlValues}
+use Rattle.element.specs.Cells.{rowsOf, Means}
+use Rattle.element.proofs.Places.{place-point, scaled-is-J, positive-there}
 use Rattle.judge.specs.Verdict.{Word, valid, invalid, undecided, Answer, Subject, Attained, FewestCells, Valid, Invalid, Undecided, Case, Judges, Stays}
-use Rattle.judge.specs.Elements.{subject}
+use Rattle.judge.specs.Elements.{subjectBy, subject}
 use Rattle.judge.specs.Faithful.{Faithful}
-use Rattle.judge.proofs.Faithful.{element-faithful}
+use Rattle.judge.proofs.Faithful.{means-faithful}
 use Rattle.judge.proofs.Levels.{passes-level, level-passes, passes-up, passes-positive, bad-up}
 use Rattle.judge.proofs.Unique.{cells-unique, judges-unique}
 use Rattle.judge.proofs.Computed.{cells-least, verdict, verdict-is}
 
+pub valid-there : (k : Kind) (f : Place k → ℤ) (c : List ℤ) → Means k f c
+    → (L : ℕ) (a : Answer)
+    → Valid (subjectBy k f c) L a
+    → (x : Place k)
+    → pos 0 <ℤ f x
+valid-there k f c m L a v x =
+    positive-there k f c m x
+    (passes-positive (subjectBy k f c) (means-faithful k f c m) (a .level) (v .level .passing) (rowsOf k x) (place-point k x))
+
 pub valid-positive : (k : Kind) (xs : List ℤ) (L : ℕ) (a : Answer) → Valid (subject k xs) L a → (x : Place k) → pos 0 <ℤ jacobian k xs x
-valid-positive k xs L a v x =
-    positive-jacobian k xs x (passes-positive (subject k xs) (element-faithful k xs) (a .level) (v .level .passing) (rowsOf k x) (place-point k x))
+valid-positive k xs = valid-there k (jacobian k xs) (controlValues k xs) (scaled-is-J k xs)
 
 module _ (s : Subject) (f : Faithful s) where
   -- ---- the least number of cells, of any depth: the greedy cutting within the limit has it, and is no deeper than the level

@@ -5,5 +5,6 @@ pub mod Unique
 pub mod Search
 pub mod Computed
 pub mod Demands
+pub mod Eases
 pub mod Twelve
 pub mod Mean

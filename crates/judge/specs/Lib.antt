@@ -2,4 +2,5 @@
 pub mod Verdict
 pub mod Faithful
 pub mod Elements
+pub mod Eases
 pub mod Twelve

@@ -3,18 +3,17 @@
 --   short-number     : a number of 32 bits is short
 --   short-line       : a line of short pieces has at most eleven characters for each
 --   name-short       : and so is each name of a verdict
---   verdict-line-short, first-line-short, refused-line-short : so at most 77, or 33
+--   verdict-line-short, first-line-short, refused-line-short, refused-record-short : so at most 77, 33 or 44
 -- Assumes nothing.
-use mathlib.Core.List.{List, [], _∷_, _++_}
+use mathlib.Core.List.{List, [], _∷_}
 use Prim.Native.Nat.{ℕ, _+_, _*_, _≤_, _<_}
 use native.Mathlib.Omega.{arith}
 use lib.ListN.{length, length-append}
-use Rattle.text.specs.Writing.{decimal}
 use Rattle.text.proofs.Decimals.{decimal-few}
 use Rattle.verdict.specs.declared.Word.{Word}
 use Rattle.verdict.specs.declared.Word.the-variants.{Nothing, Valid, Invalid, Undecided}
 use Rattle.lines.specs.Names.{nameOf}
-use Rattle.lines.specs.Words.{Piece, word, number, spelt, after, line, firstLine, verdictLine, refusedWord, refusedLine}
+use Rattle.lines.specs.Words.{Piece, word, number, spelt, after, line, firstLine, verdictLine, refusedWord, refusedLine, refusedRecord}
 
 pub record Short (p : Piece) : Type 0 where
   pub few : length (spelt p) ≤ 10
@@ -41,7 +40,7 @@ pub short-line : (p : Piece) (ps : List Piece) → Short p → Shorts ps → len
 short-line p ps s t =
     let h = s .few in let k = short-after ps t in let e = length-append (spelt p) (after ps) in omega arith
 
--- ---- the three kinds of line
+-- ---- the four kinds of line
 pub verdict-line-short : (id kind : ℕ) (name : List ℕ) (level i j cells : ℕ) → id < 4294967296 → kind < 4294967296 → length name ≤ 10
     → level < 4294967296 → i < 4294967296 → j < 4294967296 → cells < 4294967296 → length (verdictLine id kind name level i j cells) ≤ 77
 verdict-line-short id kind name level i j cells a b c d e f g =
@@ -55,3 +54,8 @@ first-line-short n h =
 
 pub refused-line-short : (c k : ℕ) → c < 4294967296 → k < 4294967296 → length (refusedLine c k) ≤ 33
 refused-line-short c k g h = short-line (word refusedWord) (number c ∷ number k ∷ []) (record { few = omega arith }) (short-number c g, (short-number k h, tt))
+
+pub refused-record-short : (id kind c : ℕ) → id < 4294967296 → kind < 4294967296 → c < 4294967296 → length (refusedRecord id kind c) ≤ 44
+refused-record-short id kind c a b d =
+    short-line (number id) (number kind ∷ word refusedWord ∷ number c ∷ []) (short-number id a)
+    (short-number kind b, (record { few = omega arith }, (short-number c d, tt)))

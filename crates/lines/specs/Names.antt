@@ -1,16 +1,19 @@
--- The names of the verdicts, and the line of an answer of the call `verdict` (01: "id, kind, verdict, level, i, j, cells").
+-- The names of the verdicts, and the line of an answer of a call that judges (01: "id, kind, verdict, level, i, j, cells").
 --   name w               == the word of a verdict as text
 --   nameOf w             == the same of the answer's word
---   judgedLine id kind v == the line of a record with the answer v
+--   judgedLine id kind v == the line of a record with the verdict of the answer v
+--   recordLine id kind v == the line of a record with the answer v: its verdict, or the code by which it is refused
 -- Definitions only.
+use mathlib.Core.Bool.{cond}
 use mathlib.Core.List.{List, [], _∷_}
 use Prim.Native.Nat.{ℕ}
+use lib.Dec.{eqb}
 use Rattle.judge.specs.Verdict.{valid, invalid, undecided}
 use Rattle.judge.specs.Verdict as judge
 use Rattle.verdict.specs.declared.Word.{Word}
 use Rattle.verdict.specs.declared.Word.the-variants.{Nothing, Valid, Invalid, Undecided}
 use Rattle.verdict.specs.declared.Judged.{Judged}
-use Rattle.lines.specs.Words.{verdictLine}
+use Rattle.lines.specs.Words.{verdictLine, refusedRecord}
 
 -- the letters of `valid`, `invalid`, `undecided`
 abbrev pub name : judge.Word → List ℕ
@@ -27,3 +30,6 @@ nameOf Undecided = name undecided
 
 abbrev pub judgedLine : ℕ → ℕ → Judged → List ℕ
 judgedLine id kind v = verdictLine id kind (nameOf (v .word)) (v .level) (v .i) (v .j) (v .cells)
+
+abbrev pub recordLine : ℕ → ℕ → Judged → List ℕ
+recordLine id kind v = cond (eqb (v .code) 0) (judgedLine id kind v) (refusedRecord id kind (v .code))

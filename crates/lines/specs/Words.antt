@@ -5,6 +5,7 @@
 --   firstLine n        == "First line: mark, version, count"
 --   verdictLine        == "Then id, kind, verdict, level, i, j, cells"
 --   refusedLine c k    == "A refused block prints only `refused`, code, record number, on one line"
+--   refusedRecord id kind c == the line of a record that a floor refuses: id, kind, `refused`, code
 -- Definitions only.
 use mathlib.Core.List.{List, [], _∷_, _++_}
 use Prim.Native.Nat.{ℕ}
@@ -26,7 +27,7 @@ after (p ∷ ps) = 32 ∷ (spelt p ++ after ps)
 abbrev pub line : Piece → List Piece → List ℕ
 line p ps = spelt p ++ after ps
 
--- ---- the three kinds of line; 67 69 76 are the letters CEL
+-- ---- the four kinds of line; 67 69 76 are the letters CEL
 abbrev pub firstLine : ℕ → List ℕ
 firstLine n = line (word (67 ∷ 69 ∷ 76 ∷ [])) (number 1 ∷ number n ∷ [])
 
@@ -40,3 +41,6 @@ refusedWord = 114 ∷ 101 ∷ 102 ∷ 117 ∷ 115 ∷ 101 ∷ 100 ∷ []
 
 abbrev pub refusedLine : ℕ → ℕ → List ℕ
 refusedLine c k = line (word refusedWord) (number c ∷ number k ∷ [])
+
+abbrev pub refusedRecord : ℕ → ℕ → ℕ → List ℕ
+refusedRecord id kind c = line (number id) (number kind ∷ word refusedWord ∷ number c ∷ [])

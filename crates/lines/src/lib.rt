@@ -6,9 +6,9 @@ ghost use mathlib.Core.List.{[], _∷_};
 ghost use Prim.Native.Nat.{_≤_};
 ghost use lib.ListN.{length};
 ghost use Rattle.text.specs.Writing.{Wrote, decimal};
-ghost use Rattle.lines.specs.Words.{after, firstLine, refusedLine};
+ghost use Rattle.lines.specs.Words.{after, firstLine, refusedLine, refusedRecord};
 ghost use Rattle.lines.specs.Words as spec;
-ghost use Rattle.lines.specs.Names.{nameOf, judgedLine};
+ghost use Rattle.lines.specs.Names.{nameOf, judgedLine, recordLine};
 
 // A space and a number.
 fn number(out: &mut [u8], at: usize, n: u64) -> usize
@@ -57,7 +57,7 @@ pub fn name(out: &mut [u8], at: usize, word: Word) -> usize
 }
 
 // The line of a record with its verdict: at most 77 characters.
-pub fn verdict_line(out: &mut [u8], at: usize, id: u32, kind: u8, v: Judged) -> usize
+fn verdict_line(out: &mut [u8], at: usize, id: u32, kind: u8, v: Judged) -> usize
     ensures line { λ r. ⌜ Wrote (now (out .entry)) at (judgedLine id kind v) (now (out .exit)) r ⌝ }
     ensures short { λ r. ⌜ length (judgedLine id kind v) ≤ 77 ⌝ }
 {
@@ -74,6 +74,29 @@ pub fn verdict_line(out: &mut [u8], at: usize, id: u32, kind: u8, v: Judged) -> 
         v.j as u64,
         v.cells as u64,
     )
+}
+
+// The line of a record that is refused by a code.
+fn refused_record(out: &mut [u8], at: usize, id: u32, kind: u8, code: u8) -> usize
+    ensures line { λ r. ⌜ Wrote (now (out .entry)) at (refusedRecord id kind code) (now (out .exit)) r ⌝ }
+    ensures short { λ r. ⌜ length (refusedRecord id kind code) ≤ 77 ⌝ }
+{
+    let a = write::natural(out, at, id as u64);
+    let b = number(out, a, kind as u64);
+    let c = write::word(out, b, b" refused");
+    let d = number(out, c, code as u64);
+    write::put(out, d, 10)
+}
+
+// The line of a record with the answer of a call that judges it: its verdict, or the code by which it is refused. At most 77 characters.
+pub fn record_line(out: &mut [u8], at: usize, id: u32, kind: u8, v: Judged) -> usize
+    ensures line { λ r. ⌜ Wrote (now (out .entry)) at (recordLine id kind v) (now (out .exit)) r ⌝ }
+    ensures short { λ r. ⌜ length (recordLine id kind v) ≤ 77 ⌝ }
+{
+    if v.code != 0 {
+        return refused_record(out, at, id, kind, v.code);
+    }
+    verdict_line(out, at, id, kind, v)
 }
 
 // The one line of a refused block.

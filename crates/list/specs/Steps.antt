@@ -1,39 +1,39 @@
--- What the functions under `write_list` leave, a step each.
---   LineWritten r o at o′ p   == of the buffer o, with the line of r written at the place `at`, o′ is left and p is the place after it
---   LinesWritten rs o at o′ p == the same of the lines of the records rs
+-- What the functions under `write_list` and `write_floor_list` leave, a step each.
+--   LineWritten q r o at o′ p   == of the buffer o, with the line of r written at the place `at`, o′ is left and p is the place after it
+--   LinesWritten q rs o at o′ p == the same of the lines of the records rs
 --   LineAt, LinesTo   == the same of record k, and of the first n records, of bytes that are a block
---   WholeList l o o′ p == the same of the list of the bytes l, at the buffer's start
+--   WholeList q l o o′ p == the same of the list of the bytes l, at the buffer's start
 -- Definitions only.
-use mathlib.Core.Path.{_≡_}
 use mathlib.Core.List.{List}
 use Prim.Native.Nat.{ℕ, _*_, _≤_, _<_}
 use lib.ListN.{length, take}
 use Rattle.record.specs.declared.Record.{Record}
 use Rattle.block.specs.Block.{Holds, record-of}
 use Rattle.text.specs.Writing.{Wrote}
-use Rattle.list.specs.Listing.{Line, Lines, Lists}
+use Rattle.floor.specs.declared.Profile.{Profile}
+use Rattle.list.specs.Listing.{LineBy, Lines, Lists}
 
 -- a line has at most 77 characters
-pub record LineWritten (r : Record) (o : List ℕ) (at : ℕ) (o′ : List ℕ) (p : ℕ) : Type 0 where
+pub record LineWritten (q : Profile) (r : Record) (o : List ℕ) (at : ℕ) (o′ : List ℕ) (p : ℕ) : Type 0 where
   pub text : List ℕ
-  pub line : Line r text
+  pub line : LineBy q r text
   pub short : length text ≤ 77
   pub wrote : Wrote o at text o′ p
 
-pub record LinesWritten (rs : List Record) (o : List ℕ) (at : ℕ) (o′ : List ℕ) (p : ℕ) : Type 0 where
+pub record LinesWritten (q : Profile) (rs : List Record) (o : List ℕ) (at : ℕ) (o′ : List ℕ) (p : ℕ) : Type 0 where
   pub text : List ℕ
-  pub lines : Lines rs text
+  pub lines : Lines q rs text
   pub short : length text ≤ 77 * length rs
   pub wrote : Wrote o at text o′ p
 
-abbrev pub LineAt : List ℕ → ℕ → List ℕ → ℕ → List ℕ → ℕ → Type 0
-LineAt l k o at o′ p = (rs : List Record) → Holds l rs → k < length rs → LineWritten (record-of rs k) o at o′ p
+abbrev pub LineAt : Profile → List ℕ → ℕ → List ℕ → ℕ → List ℕ → ℕ → Type 0
+LineAt q l k o at o′ p = (rs : List Record) → Holds l rs → k < length rs → LineWritten q (record-of rs k) o at o′ p
 
-abbrev pub LinesTo : List ℕ → ℕ → List ℕ → ℕ → List ℕ → ℕ → Type 0
-LinesTo l n o at o′ p = (rs : List Record) → Holds l rs → n ≤ length rs → LinesWritten (take n rs) o at o′ p
+abbrev pub LinesTo : Profile → List ℕ → ℕ → List ℕ → ℕ → List ℕ → ℕ → Type 0
+LinesTo q l n o at o′ p = (rs : List Record) → Holds l rs → n ≤ length rs → LinesWritten q (take n rs) o at o′ p
 
-pub record WholeList (l o o′ : List ℕ) (p : ℕ) : Type 0 where
+pub record WholeList (q : Profile) (l o o′ : List ℕ) (p : ℕ) : Type 0 where
   pub text : List ℕ
-  pub lists : Lists l text
+  pub lists : Lists q l text
   pub short : length text ≤ 65536
   pub wrote : Wrote o 0 text o′ p

@@ -1,18 +1,20 @@
-// The list of a block's verdicts as text: the call `write_list`.
+// The list of a block's verdicts as text: the calls `write_list`, and `write_floor_list` under a floor on distortion.
 use block::check_block;
 use block::record_at;
+use floor::Profile;
+use floor::verdict_by;
 use lines::first_line;
+use lines::record_line;
 use lines::refused_line;
-use lines::verdict_line;
 use text::write;
 use verdict::Judged;
 use verdict::Word;
-use verdict::verdict;
 ghost use mathlib.Core.Path.{_≡_};
 ghost use Prim.Native.Nat.{_*_, min};
 ghost use lib.ListN.{length, take};
 ghost use Rattle.verdict.specs.Calls.{VerdictOf};
-ghost use Rattle.list.specs.Calls.{WritesList};
+ghost use Rattle.floor.specs.Calls.{ToldBy};
+ghost use Rattle.list.specs.Calls.{WritesBy, WritesList, WritesFloorList};
 ghost use Rattle.list.specs.Steps.{LineAt, LinesTo, WholeList};
 
 // The code, the record number, and the length of the list.
@@ -32,55 +34,63 @@ fn used_numbers(kind: u8) -> usize
     2 * (kind as usize)
 }
 
-// The verdict of a record's element under its own limit, from the record's 18 numbers.
+// The answer to a record's element under its own limit, from the record's 18 numbers.
+fn judge_by(by: Profile, kind: u8, limit: u8, coords: &[i32]) -> Judged
+    requires { ⌜ length (now coords) ≡ 18 ⌝ }
+    ensures { λ v. ⌜ ToldBy by kind limit (take (2 * kind) (now (coords .entry))) v ⌝ }
+{
+    let n = used_numbers(kind);
+    verdict_by(by, kind, limit, &coords[..n])
+}
+
+// The plain verdict of it.
 pub fn judge(kind: u8, limit: u8, coords: &[i32]) -> Judged
     requires { ⌜ length (now coords) ≡ 18 ⌝ }
     ensures { λ v. ⌜ VerdictOf kind limit (take (2 * kind) (now (coords .entry))) v ⌝ }
 {
-    let n = used_numbers(kind);
-    verdict(kind, limit, &coords[..n])
+    judge_by(Profile::Plain, kind, limit, coords)
 }
 
 // The line of record k of a block.
-fn line_at(out: &mut [u8], at: usize, bytes: &[u8], k: u32) -> usize
-    ensures { λ r. ⌜ LineAt (now (bytes .entry)) k (now (out .entry)) at (now (out .exit)) r ⌝ }
+fn line_at(out: &mut [u8], at: usize, bytes: &[u8], k: u32, by: Profile) -> usize
+    ensures { λ r. ⌜ LineAt by (now (bytes .entry)) k (now (out .entry)) at (now (out .exit)) r ⌝ }
 {
     let r = record_at(bytes, k);
-    let v = judge(r.kind, r.limit, &r.coords);
-    verdict_line(out, at, r.id, r.kind, v)
+    let v = judge_by(by, r.kind, r.limit, &r.coords);
+    record_line(out, at, r.id, r.kind, v)
 }
 
 // The lines of a block's records.
-fn lines_to(out: &mut [u8], from: usize, bytes: &[u8], count: u32) -> usize
-    ensures { λ r. ⌜ LinesTo (now (bytes .entry)) count (now (out .entry)) from (now (out .exit)) r ⌝ }
+fn lines_to(out: &mut [u8], from: usize, bytes: &[u8], count: u32, by: Profile) -> usize
+    ensures { λ r. ⌜ LinesTo by (now (bytes .entry)) count (now (out .entry)) from (now (out .exit)) r ⌝ }
 {
     let mut at = from;
     let mut k = 0;
     while k < count {
-        at = line_at(out, at, bytes, k);
+        at = line_at(out, at, bytes, k, by);
         k += 1;
     }
     at
 }
 
 // The list, where there is room for it, and the place after it.
-fn whole_list(bytes: &[u8], out: &mut [u8]) -> usize
-    ensures { λ r. ⌜ WholeList (now (bytes .entry)) (now (out .entry)) (now (out .exit)) r ⌝ }
+fn whole_list(bytes: &[u8], out: &mut [u8], by: Profile) -> usize
+    ensures { λ r. ⌜ WholeList by (now (bytes .entry)) (now (out .entry)) (now (out .exit)) r ⌝ }
 {
     let c = check_block(bytes);
     if c.code != 0 {
         return refused_line(out, 0, c.code as u64, c.number as u64);
     }
     let at = first_line(out, 0, c.count as u64);
-    lines_to(out, at, bytes, c.count)
+    lines_to(out, at, bytes, c.count, by)
 }
 
-// Writes the list of a block into a buffer, and answers its length; 5 where the buffer is too short.
-pub fn write_list(bytes: &[u8], out: &mut [u8]) -> Listed
-    ensures { λ r. ⌜ WritesList (now (bytes .entry)) (now (out .entry)) (now (out .exit)) r ⌝ }
+// Writes the list of a block by a profile into a buffer, and answers its length; 5 where the buffer is too short.
+pub fn write_by(bytes: &[u8], out: &mut [u8], by: Profile) -> Listed
+    ensures { λ r. ⌜ WritesBy by (now (bytes .entry)) (now (out .entry)) (now (out .exit)) r ⌝ }
 {
     let mut space = [0u8; 65536];
-    let n = whole_list(bytes, &mut space);
+    let n = whole_list(bytes, &mut space, by);
     if out.len() < n {
         return Listed {
             code: 5,
@@ -94,4 +104,18 @@ pub fn write_list(bytes: &[u8], out: &mut [u8]) -> Listed
         number: 0,
         length: n,
     }
+}
+
+// The list of a block.
+pub fn write_list(bytes: &[u8], out: &mut [u8]) -> Listed
+    ensures { λ r. ⌜ WritesList (now (bytes .entry)) (now (out .entry)) (now (out .exit)) r ⌝ }
+{
+    write_by(bytes, out, Profile::Plain)
+}
+
+// The list of a block under a floor of p percent.
+pub fn write_floor_list(bytes: &[u8], out: &mut [u8], p: u8) -> Listed
+    ensures { λ r. ⌜ WritesFloorList p (now (bytes .entry)) (now (out .entry)) (now (out .exit)) r ⌝ }
+{
+    write_by(bytes, out, Profile::Floor(p))
 }

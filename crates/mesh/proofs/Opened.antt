@@ -11,12 +11,13 @@ use mathlib.Core.List.{List}
 use Prim.Native.Nat.{ℕ, zero, suc, _≤_, _<_}
 use native.Mathlib.Omega.{arith}
 use lib.ListN.{length, take, replicate}
+use Rattle.element.proofs.Refusals.{refused-then, past-then, accepted-then, then-accepted}
 use Rattle.element.specs.Refusals.{Refused, Accepted}
 use Rattle.block.specs.Block.{countOf}
 use Rattle.block.specs.declared.Checked.{Checked}
 use Rattle.block.specs.Calls.{Checks}
 use Rattle.block.specs.Faults.{Fault, naming, blockCodes}
-use Rattle.block.proofs.Orders.{refused-then, past-then, accepted-then, then-accepted, refused-of, accepted-of, of-accepted}
+use Rattle.block.proofs.Orders.{refused-of, accepted-of, of-accepted}
 use Rattle.block.proofs.Walk.{block-some}
 use Rattle.append.specs.Append.{bufferCodes}
 use Rattle.mesh_text.specs.Rows.{none, both}

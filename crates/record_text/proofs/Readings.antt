@@ -14,8 +14,8 @@ use native.Mathlib.Omega.{arith}
 use borrow.Author.Tests.{eqb-true, ltb-false}
 use lib.Dec.{ltb}
 use lib.IntN.{ℤ}
+use Rattle.element.proofs.Refusals.{accepted-then, then-accepted}
 use Rattle.element.specs.Refusals.{Accepted}
-use Rattle.block.proofs.Orders.{accepted-then, then-accepted}
 use Rattle.append.specs.Series.{Given, IdsFit}
 use Rattle.mesh_text.specs.Rows.{Pairs, no-pairs, pair, first, rest, isEnd, lines, words}
 use Rattle.mesh_text.specs.Words.{Number, IsNumber, WholeValue}

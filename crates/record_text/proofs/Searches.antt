@@ -13,9 +13,8 @@ use mathlib.Core.List.{List, [], _∷_}
 use mathlib.Core.Logic.{inl, inr}
 use Prim.Native.Nat.{ℕ, suc, _<_}
 use native.Mathlib.Omega.{arith}
-use Rattle.element.specs.Refusals.{Codes, code, Refused, Accepted}
-use Rattle.block.specs.Faults.{_then_}
-use Rattle.block.proofs.Orders.{refused-then, past-then, accepted-then}
+use Rattle.element.proofs.Refusals.{refused-then, past-then, accepted-then}
+use Rattle.element.specs.Refusals.{Codes, code, _then_, Refused, Accepted}
 use Rattle.mesh_text.specs.Rows.{first, rest, isNil, lines, line, words, isEnd}
 use Rattle.mesh_text.proofs.Rows.{parts-two}
 use Rattle.record_text.specs.declared.Test.{Test}

@@ -17,8 +17,7 @@ use mathlib.Core.List.{List, [], _∷_}
 use Prim.Native.Nat.{ℕ, suc, _≤_, _<_}
 use lib.IntN.{ℤ}
 use lib.ListN.{length}
-use Rattle.element.specs.Refusals.{Codes, no-more, code}
-use Rattle.block.specs.Faults.{_then_}
+use Rattle.element.specs.Refusals.{Codes, no-more, code, _then_}
 use Rattle.mesh_text.specs.Rows.{lines, words}
 use Rattle.mesh_text.specs.Words.{Number, IsNumber, WholeValue}
 

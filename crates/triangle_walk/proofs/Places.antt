@@ -3,7 +3,8 @@
 --   sub-corners     : those are the corners that the law gives the quarter
 --   cut-room, room-x, room-y : what the callees need
 --   quarter-room    : a quarter has room for one cut less
---   start-room      : the whole element has room for ten cuts
+--   room-of         : the whole element has room for n cuts where its values have room for m, no fewer
+--   start-room      : and for ten cuts where they are within 2^42
 -- Assumes nothing.
 use mathlib.Core.Path.{_≡_, refl}
 use mathlib.Core.Bool.{Bool, true, false, not}
@@ -136,9 +137,13 @@ span-ten : 1 ≤ span 10
 unfolding span
 span-ten = lit≤ tt
 
-pub start-room : (n : ℕ) (c : List ℤ) → n ≤ 10 → Each 4398046511104 c → Room n 0 0 0 true c
-start-room n c h p =
-    let e : 10 - n + n ≡ 10 = omega arith in
+-- values that have room for m cuts have it for n, no more than these
+pub room-of : (n m : ℕ) (c : List ℤ) → n ≤ m → m ≤ 10 → Each (cap 4 m) c → Room n 0 0 0 true c
+room-of n m c h k p =
+    let e : 10 - n + n ≡ 10 = omega arith in let f : m - n + n ≡ m = omega arith in
     let s : 1 ≤ span n = N.le-trans span-ten (rw e at (span-down (10 - n) n)) in
     let low : Low (span n) true 0 = record { here = omega arith; there = s; before = omega arith } in
-    record { small = each-≤ p (N.le-trans cap-ten (rw e at (cap-down 4 (10 - n) n))); deep = omega arith; wide = low; high = low }
+    record { small = each-≤ p (rw f at (cap-down 4 (m - n) n)); deep = omega arith; wide = low; high = low }
+
+pub start-room : (n : ℕ) (c : List ℤ) → n ≤ 10 → Each 4398046511104 c → Room n 0 0 0 true c
+start-room n c h p = room-of n 10 c h (N.le-refl 10) (each-≤ p cap-ten)

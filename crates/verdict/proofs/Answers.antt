@@ -6,10 +6,9 @@
 --   triangle-room, triangle-walked : a triangle's walk
 --   quad-room, quad-walked : a quad's walk
 -- Assumes nothing.
-use mathlib.Core.Path.{_≡_, refl, sym, _∙_, ap, subst}
+use mathlib.Core.Path.{_≡_, refl, sym, _∙_, ap}
 use mathlib.Core.Bool.{Bool, true, false, cond}
 use mathlib.Core.List.{List}
-use mathlib.Core.Logic.{inl, inr}
 use Prim.Native.Nat.{ℕ, _*_, _/_, _≤_}
 use native.Mathlib.Nat as N
 use native.Mathlib.Omega.{arith}
@@ -21,11 +20,11 @@ use Rattle.algebra.proofs.Within.{each-≤, each-as}
 use Rattle.element.specs.Kinds.{Kind, six, eight, nine, kindOf, greatestLevel}
 use Rattle.element.specs.Control.{values6, controlValues}
 use Rattle.element.specs.Refusals.{Accepted, Coded, boundsCodes, verdictCodes}
-use Rattle.element.proofs.Refusals.{coded-some}
 use Rattle.element.proofs.Sizes.{values-size}
 use Rattle.faults.proofs.Limits.{limit-quad, level-quad, accepted-each}
 use Rattle.quad.specs.Points.{quadKind}
 use Rattle.judge.specs.Verdict.{Answer, is-valid, is-invalid, is-undecided}
+use Rattle.judge.specs.Elements.{subject}
 use Rattle.steps.specs.declared.Walk.{Walk}
 use Rattle.walks.specs.Walk.{answer}
 use Rattle.walks.specs.Elements.{walkOf}
@@ -36,6 +35,7 @@ use Rattle.quad_walk.specs.Walks as quads
 use Rattle.quad_walk.proofs.Places as quad-places
 use Rattle.verdict.specs.Calls.{given, refusal, VerdictOf}
 use Rattle.verdict.specs.declared.Judged.{Judged}
+use Rattle.verdict.proofs.Judging.{tells-refusal, tells-verdict}
 
 module _ (L : ℕ) (w : Walk) where
   abbrev bad-answer : Answer
@@ -78,8 +78,7 @@ module _ (n l : ℕ) (xs : List ℤ) where
   accepted-bounds a = (a .0, a .1 .1)
 
   pub refuses : {c : ℕ} {r : Judged} → Coded (verdictCodes n l xs) c → ¬ (c ≡ 0) → r ≡ refusal c → VerdictOf n l xs r
-  refuses {c} {r} p h e =
-      subst (VerdictOf n l xs) (sym e) (inl (record { refused = coded-some p h; zeros = refl }))
+  refuses = tells-refusal (verdictCodes n l xs) (subject (kindOf n) xs) l
 
   pub succeeds : {k : Kind} {w : Walk} {r : Judged}
       → Accepted (verdictCodes n l xs)
@@ -88,13 +87,9 @@ module _ (n l : ℕ) (xs : List ℤ) where
       → r ≡ given (answer l w)
       → VerdictOf n l xs r
   succeeds {k} {w} {r} a e f g =
-      inr
-      (record {
-        accepted = a;
-        answer = answer l (walkOf (kindOf n) l (controlValues (kindOf n) xs));
-        judges = walk-verdict (kindOf n) xs l;
-        told = g ∙ ap (λ (v : Walk). given (answer l v)) (f ∙ ap (λ (k : Kind). walkOf k l (controlValues k xs)) (sym e));
-      })
+      tells-verdict (verdictCodes n l xs) (subject (kindOf n) xs) l (answer l (walkOf (kindOf n) l (controlValues (kindOf n) xs))) a
+      (walk-verdict (kindOf n) xs l)
+      (g ∙ ap (λ (v : Walk). given (answer l v)) (f ∙ ap (λ (k : Kind). walkOf k l (controlValues k xs)) (sym e)))
 
   -- ---- what the tests of the code tell of the kind
   pub triangle-accepted : n ≡ 6 → Accepted (verdictCodes n l xs) → (l ≤ 10) × Each 65536 xs

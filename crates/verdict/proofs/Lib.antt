@@ -1,4 +1,5 @@
--- The laws of the call `verdict`.
+-- The laws of the call `verdict`, and of any call that judges.
+pub mod Judging
 pub mod Answers
 pub mod Outcomes
 pub mod Twelve

@@ -11,7 +11,7 @@
 --   not-guessed : G(8,4) under the limit 0 is
 --   centre-counts : the eight-node quad `apart` is not valid under any limit, since J is negative at a point of it by relation 31
 -- Assumes nothing.
-use mathlib.Core.Path.{_≡_, sym, _∙_, ap}
+use mathlib.Core.Path.{_≡_, refl, sym, _∙_, ap}
 use mathlib.Core.List.{List}
 use mathlib.Core.Logic.{_⊎_, inl, inr}
 use Prim.Native.Nat.{ℕ, _≤_, _<_}
@@ -25,10 +25,12 @@ use Rattle.element.specs.Refusals.{Refused, Accepted, verdictCodes}
 use Rattle.element.proofs.Mean.{apart, right, mean-parts}
 use Rattle.element.proofs.Refusals.{refused-accepted}
 use Rattle.judge.specs.Verdict.{is-valid}
+use Rattle.judge.specs.Elements.{subject}
 use Rattle.judge.specs.Twelve.{F, G}
 use Rattle.verdict.specs.Calls.{given, refusal, VerdictOf}
 use Rattle.verdict.specs.declared.Word.the-variants.{Valid, Invalid, Undecided}
 use Rattle.verdict.specs.declared.Judged.{Judged}
+use Rattle.verdict.proofs.Judging.{refused-told}
 use Rattle.verdict.proofs.Outcomes.{valid-positive}
 use Rattle.verdict.proofs.Twelve.{twelve-called}
 
@@ -38,13 +40,7 @@ module _ (n l : ℕ) (xs : List ℤ) (r : Judged) where
   right-accepted a (inr p) = ap (λ (q : Judged). q .code) (p .told)
 
   pub limit-above : ¬ NotKind n → greatestLevel (kindOf n) < l → VerdictOf n l xs r → r ≡ refusal 2
-  limit-above k h (inl p) = p .zeros ∙ ap refusal (go (p .refused))
-    where
-      go : Refused (verdictCodes n l xs) (r .code) → r .code ≡ 2
-      go (inl (f, e)) = absurd (k f)
-      go (inr (f, inl (g, e))) = e
-      go (inr (f, inr (g, o))) = absurd (g h)
-  limit-above k h (inr p) = absurd (p .accepted .1 .0 h)
+  limit-above k h = refused-told (verdictCodes n l xs) (subject (kindOf n) xs) l 2 (inr (k, inl (h, refl))) r
 
   pub limit-within : l ≤ greatestLevel (kindOf n) → VerdictOf n l xs r → ¬ (r .code ≡ 2)
   limit-within h (inl p) e = go (p .refused)
@@ -67,26 +63,26 @@ module _ (n l : ℕ) (xs : List ℤ) (r : Judged) where
 -- ---- by the twelve: what the call answers is what 01 lists
 module _ (r : Judged) where
   pub zero-corner-counts : VerdictOf 6 3 (F 2) r → ¬ (r .word ≡ Valid)
-  zero-corner-counts v e = let p = twelve-called .1 .1 .0 r v in let z : _≡_ {A = ℕ} 0 1 = cc in omega arith
+  zero-corner-counts v e = let p = twelve-called .1 .1 .0 .no-other r v in let z : _≡_ {A = ℕ} 0 1 = cc in omega arith
 
   pub harmless-zero-passes : VerdictOf 6 0 (G 4 2) r → r ≡ given (is-valid 0 1)
-  harmless-zero-passes v = twelve-called .1 .1 .1 .1 .0 r v
+  harmless-zero-passes v = twelve-called .1 .1 .1 .1 .0 .no-other r v
 
   pub edge-value-harmless : VerdictOf 6 3 (G 3 4) r → ¬ (r .word ≡ Invalid)
-  edge-value-harmless v e = let p = twelve-called .1 .1 .1 .1 .1 .0 r v in let z : _≡_ {A = ℕ} 0 1 = cc in omega arith
+  edge-value-harmless v e = let p = twelve-called .1 .1 .1 .1 .1 .0 .no-other r v in let z : _≡_ {A = ℕ} 0 1 = cc in omega arith
 
   pub not-settled-at-0 : VerdictOf 6 3 (G 3 4) r ⊎ VerdictOf 6 3 (G 8 4) r → ¬ (r .level ≡ 0)
-  not-settled-at-0 (inl v) e = let p = twelve-called .1 .1 .1 .1 .1 .0 r v in let z : _≡_ {A = ℕ} 0 1 = cc in omega arith
-  not-settled-at-0 (inr v) e = let p = twelve-called .1 .1 .1 .1 .1 .1 .1 .0 r v in let z : _≡_ {A = ℕ} 0 1 = cc in omega arith
+  not-settled-at-0 (inl v) e = let p = twelve-called .1 .1 .1 .1 .1 .0 .no-other r v in let z : _≡_ {A = ℕ} 0 1 = cc in omega arith
+  not-settled-at-0 (inr v) e = let p = twelve-called .1 .1 .1 .1 .1 .1 .1 .0 .no-other r v in let z : _≡_ {A = ℕ} 0 1 = cc in omega arith
 
   pub four-cells : VerdictOf 6 3 (G 3 4) r → r .cells ≡ 4
-  four-cells v = ap (λ (q : Judged). q .cells) (twelve-called .1 .1 .1 .1 .1 .0 r v)
+  four-cells v = ap (λ (q : Judged). q .cells) (twelve-called .1 .1 .1 .1 .1 .0 .no-other r v)
 
   pub not-undecided : VerdictOf 6 0 (F 0) r → ¬ (r .word ≡ Undecided)
-  not-undecided v e = let p = twelve-called .0 r v in let z : _≡_ {A = ℕ} 0 1 = cc in omega arith
+  not-undecided v e = let p = twelve-called .0 .no-other r v in let z : _≡_ {A = ℕ} 0 1 = cc in omega arith
 
   pub not-guessed : VerdictOf 6 0 (G 8 4) r → r .word ≡ Undecided
-  not-guessed v = ap (λ (q : Judged). q .word) (twelve-called .1 .1 .1 .1 .1 .1 .1 .1 .0 r v)
+  not-guessed v = ap (λ (q : Judged). q .word) (twelve-called .1 .1 .1 .1 .1 .1 .1 .1 .0 .no-other r v)
 
   -- ---- by J
   pub centre-counts : (l : ℕ) → VerdictOf 8 l apart r → ¬ (r .word ≡ Valid)

@@ -1,4 +1,5 @@
 -- The twelve elements of 01 as answers of the call `verdict`: it accepts each of them, and answers what 01 lists, in every field.
+--   listed, list-accepted : a list of coordinates that a kind takes, as a test
 --   accepted-kind    : an element of a kind is accepted, by tests that compute
 --   twelve-called    : the claim, for the whole list
 -- Assumes nothing.
@@ -21,7 +22,6 @@ use Rattle.judge.specs.Twelve.{Row, twelve, Holds, AllHold}
 use Rattle.judge.proofs.Twelve.{twelve-hold}
 use Rattle.verdict.specs.Calls.{given, VerdictOf}
 use Rattle.verdict.specs.Twelve.{Called, AllCalled}
-use Rattle.verdict.specs.declared.Judged.{Judged}
 use Rattle.verdict.proofs.Outcomes.{verdict-unique}
 
 -- ---- acceptance, as a test
@@ -34,8 +34,16 @@ within-at n [] t i = zero-le
 within-at n (z ∷ xs) t zero = leb→le (natAbs z) n (T-and (leb (natAbs z) n) (allWithin n xs) t .0)
 within-at n (z ∷ xs) t (suc i) = within-at n xs (T-and (leb (natAbs z) n) (allWithin n xs) t .1) i
 
+abbrev pub listed : Kind → List ℤ → Bool
+listed k xs = eqb (length xs) (2 * nodeCount k) && allWithin (coordinateLimit k) xs
+
+pub list-accepted : (k : Kind) (xs : List ℤ) → T (listed k xs) → ¬ WrongLength (nodeCount k) xs × ¬ Outside k xs
+list-accepted k xs t =
+    let (a, b) = T-and (eqb (length xs) (2 * nodeCount k)) (allWithin (coordinateLimit k) xs) t in
+    ((λ f. f (eqb→eq (length xs) (2 * nodeCount k) a)), (λ f. N.not-le-of-lt (f .2) (within-at (coordinateLimit k) xs b (f .0))))
+
 abbrev accepts : Kind → ℕ → List ℤ → Bool
-accepts k l xs = leb l (greatestLevel k) && (eqb (length xs) (2 * nodeCount k) && allWithin (coordinateLimit k) xs)
+accepts k l xs = leb l (greatestLevel k) && listed k xs
 
 kind-of-nodes : (k : Kind) → kindOf (nodeCount k) ≡ k
 kind-of-nodes six = refl
@@ -49,11 +57,9 @@ is-kind nine f = f .2 refl
 
 pub accepted-kind : (k : Kind) (l : ℕ) (xs : List ℤ) → T (accepts k l xs) → Accepted (verdictCodes (nodeCount k) l xs)
 accepted-kind k l xs t =
-    let (a, u) = T-and (leb l (greatestLevel k)) (eqb (length xs) (2 * nodeCount k) && allWithin (coordinateLimit k) xs) t in
-    let (b, c) = T-and (eqb (length xs) (2 * nodeCount k)) (allWithin (coordinateLimit k) xs) u in
+    let (a, u) = T-and (leb l (greatestLevel k)) (listed k xs) t in
+    let (many, inside) = list-accepted k xs u in
     let level : ¬ AboveLevel k l = λ h. N.not-le-of-lt h (leb→le l (greatestLevel k) a) in
-    let many : ¬ WrongLength (nodeCount k) xs = λ f. f (eqb→eq (length xs) (2 * nodeCount k) b) in
-    let inside : ¬ Outside k xs = λ f. N.not-le-of-lt (f .2) (within-at (coordinateLimit k) xs c (f .0)) in
     rw (kind-of-nodes k)
     (is-kind k, (level, (many, (inside, tt))))
 
@@ -63,14 +69,16 @@ allAccepted [] = true
 allAccepted (r ∷ rs) = accepts (r .kind) (r .limit) (r .coords) && allAccepted rs
 
 called : (r : Row) → Holds r → T (accepts (r .kind) (r .limit) (r .coords)) → Called r
-called r h t s v = verdict-unique (nodeCount (r .kind)) (r .limit) (r .coords) s (given (r .answer)) v
-    (inr
-    (record {
-      accepted = accepted-kind (r .kind) (r .limit) (r .coords) t;
-      answer = r .answer;
-      judges = subst (λ (k : Kind). Judges (subject k (r .coords)) (r .limit) (r .answer)) (sym (kind-of-nodes (r .kind))) (h .1);
-      told = refl;
-    }))
+called r h t = record { allowed = v; no-other = λ s w. verdict-unique (nodeCount (r .kind)) (r .limit) (r .coords) s (given (r .answer)) w v }
+  where
+    v : VerdictOf (nodeCount (r .kind)) (r .limit) (r .coords) (given (r .answer))
+    v =
+        inr (record {
+          accepted = accepted-kind (r .kind) (r .limit) (r .coords) t;
+          answer = r .answer;
+          judges = subst (λ (k : Kind). Judges (subject k (r .coords)) (r .limit) (r .answer)) (sym (kind-of-nodes (r .kind))) (h .1);
+          told = refl;
+        })
 
 all-called : (rs : List Row) → AllHold rs → T (allAccepted rs) → AllCalled rs
 all-called [] h t = tt

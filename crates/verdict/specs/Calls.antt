@@ -1,20 +1,25 @@
--- What the call `verdict` answers (01, "The sign test and the verdict", "Codes and what they leave").
+-- What the call `verdict` answers, and any other call that judges (01, "The sign test and the verdict", "Codes and what they leave").
 --   tell w         == the case of the answer's word for each of 01's three
 --   given a        == the answer's fields for the verdict a
 --   refusal c      == the answer's fields for the code c
 --   Settled w      == the word is valid or invalid
---   NoVerdict, HasVerdict n l xs r == a refusal, and a success
---   VerdictOf n l xs r == the one or the other
+--   NoVerdict o r      == a refusal by the order of codes o
+--   HasVerdict o s l r == a success: the verdict on the subject s under the limit l
+--   Told o s l r       == the one or the other: what any call answers that judges s
+--   VerdictOf n l xs r == what `verdict` answers
+--   Only P r           == the contract P allows the answer r, and no other
+--   MilderCall r s     == the answer s is valid, at no deeper level and with no more cells than r
+--   SternerCall r s    == the answer s is invalid, at no deeper level than r
 -- n is the number given as the kind, l the level limit, xs the coordinate list.
 -- Definitions only.
 use mathlib.Core.Path.{_≡_}
 use mathlib.Core.List.{List}
 use mathlib.Core.Logic.{_⊎_}
-use Prim.Native.Nat.{ℕ}
+use Prim.Native.Nat.{ℕ, _≤_}
 use lib.IntN.{ℤ, pos}
 use Rattle.element.specs.Kinds.{kindOf}
-use Rattle.element.specs.Refusals.{Refused, Accepted, verdictCodes}
-use Rattle.judge.specs.Verdict.{valid, invalid, undecided, Answer, Judges}
+use Rattle.element.specs.Refusals.{Codes, Refused, Accepted, verdictCodes}
+use Rattle.judge.specs.Verdict.{valid, invalid, undecided, Answer, Subject, Judges}
 use Rattle.judge.specs.Verdict as judge
 use Rattle.judge.specs.Elements.{subject}
 use Rattle.verdict.specs.declared.Word.{Word}
@@ -51,17 +56,35 @@ Settled Valid = Unit {0}
 Settled Invalid = Unit {0}
 Settled Undecided = ⊥
 
--- "Verdict: 1, 2, 3, 4"
-pub record NoVerdict (n l : ℕ) (xs : List ℤ) (r : Judged) : Type 0 where
-  pub refused : Refused (verdictCodes n l xs) (r .code)
+-- ---- what a call that judges answers; o is the order of its codes, s what it judges
+pub record NoVerdict (o : Codes ℕ) (r : Judged) : Type 0 where
+  pub refused : Refused o (r .code)
   pub zeros : r ≡ refusal (r .code)
 
--- the verdict of 01's three sentences, on the element itself
-pub record HasVerdict (n l : ℕ) (xs : List ℤ) (r : Judged) : Type 0 where
-  pub accepted : Accepted (verdictCodes n l xs)
+-- the verdict of 01's three sentences, on the subject itself
+pub record HasVerdict (o : Codes ℕ) (s : Subject) (l : ℕ) (r : Judged) : Type 0 where
+  pub accepted : Accepted o
   pub answer : Answer
-  pub judges : Judges (subject (kindOf n) xs) l answer
+  pub judges : Judges s l answer
   pub told : r ≡ given answer
 
+abbrev pub Told : Codes ℕ → Subject → ℕ → Judged → Type 0
+Told o s l r = NoVerdict o r ⊎ HasVerdict o s l r
+
+-- "Verdict: 1, 2, 3, 4", and the element itself, by its nodes
 abbrev pub VerdictOf : ℕ → ℕ → List ℤ → Judged → Type 0
-VerdictOf n l xs r = NoVerdict n l xs r ⊎ HasVerdict n l xs r
+VerdictOf n l xs r = Told (verdictCodes n l xs) (subject (kindOf n) xs) l r
+
+pub record Only (P : Judged → Type 0) (r : Judged) : Type 0 where
+  pub allowed : P r
+  pub no-other : (s : Judged) → P s → s ≡ r
+
+-- ---- of two answers
+pub record MilderCall (r s : Judged) : Type 0 where
+  pub word : s .word ≡ Valid
+  pub level : s .level ≤ r .level
+  pub cells : s .cells ≤ r .cells
+
+pub record SternerCall (r s : Judged) : Type 0 where
+  pub word : s .word ≡ Invalid
+  pub level : s .level ≤ r .level

@@ -32,7 +32,7 @@ pub struct Judged {
 }
 
 // The answer of a refused call.
-fn refused(code: u8) -> Judged
+pub fn refused(code: u8) -> Judged
     ensures { λ r. ⌜ r ≡ refusal code ⌝ }
 {
     Judged {
@@ -48,7 +48,7 @@ fn refused(code: u8) -> Judged
 }
 
 // The answer that a walk under the limit shows.
-fn told(w: Walk, limit: u32) -> Judged
+pub fn told(w: Walk, limit: u32) -> Judged
     ensures { λ r. ⌜ r ≡ given (walks.answer limit w) ⌝ }
 {
     let best = w.best;

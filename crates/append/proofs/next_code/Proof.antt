@@ -1,9 +1,7 @@
 -- `append::next_code` meets its contract: the element's codes, then 10, 11 and 5.
 use Rattle.element.specs.Refusals.{refused, verdictCodes}
-use Rattle.element.proofs.Refusals.{coded-some, coded-none}
-use Rattle.block.proofs.Orders.{refused-then}
+use Rattle.element.proofs.Refusals.{coded-some, coded-none, refused-then, coded-then}
 use Rattle.append.specs.Append.{followCodes}
-use Rattle.append.proofs.Orders.{coded-then}
 use borrow.Author.Needs.{needs}
 use Rattle.append.proofs.next_code.Statement.{statement}
 use Rattle.append.proofs.next_code.Tie as tie

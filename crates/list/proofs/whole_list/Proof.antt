@@ -5,51 +5,40 @@ use borrow.Author.Needs.{needs}
 use Rattle.list.proofs.whole_list.Statement.{statement}
 use Rattle.list.proofs.whole_list.Tie as tie
 
--- src/lib.rt:84:9
 check-block-requires : tie.Need-check-block-requires
 check-block-requires c κs = search needs
 
--- src/lib.rt:86:37
 cast-refused-line : tie.Need-cast-refused-line
 cast-refused-line c = search needs
 
--- src/lib.rt:86:52
 cast-refused-line-2 : tie.Need-cast-refused-line-2
 cast-refused-line-2 c = search needs
 
--- src/lib.rt:86:9
 refused-line-requires : tie.Need-refused-line-requires
 refused-line-requires c κs = search needs
 
--- src/lib.rt:86:9
 same-length : tie.Need-same-length
 same-length c = search needs
 
--- src/lib.rt:86:9
 returns : tie.Need-returns
 returns c = let c2 = c .before .before in let c4 = c2 .before .before in let c6 = c4 .before .before in let c8 = c6 .before .before in
-    whole-refused (c8 .check-block .result) (c8 .check-block .ensures) (c6 .if1 .taken) (omega (arith, c4 .struct-known2 .given .0)) (omega (arith, c4 .struct-known2 .given .1 .0)) (c2 .refused-line .ensures)
+    whole-refused _ (c8 .check-block .result) (c8 .check-block .ensures) (c6 .if1 .taken) (omega (arith, c4 .struct-known2 .given .0)) (omega (arith, c4 .struct-known2 .given .1 .0)) (c2 .refused-line .ensures)
 
--- src/lib.rt:88:33
 cast-first-line : tie.Need-cast-first-line
 cast-first-line c = search needs
 
--- src/lib.rt:88:9
 first-line-requires : tie.Need-first-line-requires
 first-line-requires c κs = search needs
 
--- src/lib.rt:89:5
 lines-to-requires : tie.Need-lines-to-requires
 lines-to-requires c κs = search needs
 
--- src/lib.rt:81:1
 same-length-2 : tie.Need-same-length-2
 same-length-2 c = search needs
 
--- src/lib.rt:81:1
 returns-2 : tie.Need-returns-2
 returns-2 c = let c2 = c .before .before in let c6 = c2 .before .before .before .before in let c9 = c6 .before .before .before in let c11 = c9 .before .before in
-    whole-listed (c11 .check-block .result) (c11 .check-block .ensures) (c9 .if1 .left) (record { each = λ k. omega (arith, c11 .before .before .shared-slice-known .given k) }) (c6 .first-line .ensures) (c2 .lines-to .ensures)
+    whole-listed _ (c11 .check-block .result) (c11 .check-block .ensures) (c9 .if1 .left) (record { each = λ k. omega (arith, c11 .before .before .shared-slice-known .given k) }) (c6 .first-line .ensures) (c2 .lines-to .ensures)
 
 pub whole-list-spec : {M : Type 1} → statement M
 whole-list-spec =

@@ -1,10 +1,10 @@
--- `verdicts::main` is safe: its buffer is longer than any block, and the list lies in the buffer that it was written into. Assumes nothing.
+-- `verdicts::print` is safe: its buffer is longer than any block, and the list lies in the buffer that it was written into. Assumes nothing.
 use mathlib.Core.Path.{sym}
 use native.Mathlib.Omega.{arith}
 use lib.Seq.{length-take-le}
 use borrow.Author.Needs.{needs}
-use Rattle.verdicts.proofs.main.Statement.{statement}
-use Rattle.verdicts.proofs.main.Tie as tie
+use Rattle.verdicts.proofs.print.Statement.{statement}
+use Rattle.verdicts.proofs.print.Tie as tie
 
 slice-aggregate-read-full : tie.Need-slice-aggregate-read-full
 slice-aggregate-read-full c = search needs
@@ -33,8 +33,8 @@ write-all-requires c κs = search needs
 returns : tie.Need-returns
 returns c = search needs
 
-pub main-spec : {M : Type 1} → statement M
-main-spec =
+pub print-spec : {M : Type 1} → statement M
+print-spec =
     tie.close
     (tie.spec
     slice-aggregate-read-full

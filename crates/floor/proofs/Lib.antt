@@ -1,0 +1,9 @@
+-- The laws of the floor on distortion.
+pub mod Codes
+pub mod Values
+pub mod Levels
+pub mod Floors
+pub mod Room
+pub mod Parts
+pub mod Outcomes
+pub mod Examples
