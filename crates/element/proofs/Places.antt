@@ -1,5 +1,6 @@
 -- Places of an element as weights of its shape, and J there.
 --   place-point, place-of : the weights of a place are a point's, and every point has a place
+--   one-row, two-rows : rows are equal when their weights are
 --   control-is-J     : the control sum at a place is the scaled J there, times the weight of the place and fold²
 --   scaled-is-J      : and so is the value of the kind's form: the control values mean J
 --   positive-there   : what values mean is positive where their form is
@@ -51,10 +52,10 @@ place-point eight x = quad-point x
 place-point nine x = quad-point x
 
 -- rows by their weights
-one-row : {a b c a' b' c' : ℕ} → a ≡ a' → b ≡ b' → c ≡ c' → _≡_ {A = List Row} ((a ∷ b ∷ c ∷ []) ∷ []) ((a' ∷ b' ∷ c' ∷ []) ∷ [])
+pub one-row : {a b c a' b' c' : ℕ} → a ≡ a' → b ≡ b' → c ≡ c' → _≡_ {A = List Row} ((a ∷ b ∷ c ∷ []) ∷ []) ((a' ∷ b' ∷ c' ∷ []) ∷ [])
 one-row p q r = cc
 
-two-rows : {a b c d a' b' c' d' : ℕ} → a ≡ a' → b ≡ b' → c ≡ c' → d ≡ d'
+pub two-rows : {a b c d a' b' c' d' : ℕ} → a ≡ a' → b ≡ b' → c ≡ c' → d ≡ d'
     → _≡_ {A = List Row} ((a ∷ b ∷ []) ∷ (c ∷ d ∷ []) ∷ []) ((a' ∷ b' ∷ []) ∷ (c' ∷ d' ∷ []) ∷ [])
 two-rows p q r s = cc
 

@@ -1,6 +1,7 @@
 -- The twelve elements of 01 as answers of the call `verdict`: it accepts each of them, and answers what 01 lists, in every field.
 --   listed, list-accepted : a list of coordinates that a kind takes, as a test
---   accepted-kind    : an element of a kind is accepted, by tests that compute
+--   accepts, accepted-kind : an element of a kind is accepted, by tests that compute
+--   element-called   : the call then has the element's verdict as its answer, and no other
 --   twelve-called    : the claim, for the whole list
 -- Assumes nothing.
 use mathlib.Core.Path.{_≡_, refl, sym, subst}
@@ -16,11 +17,11 @@ use Rattle.algebra.proofs.Truth.{T-and}
 use Rattle.element.specs.Kinds.{Kind, six, eight, nine, nodeCount, kindOf, NotKind, coordinateLimit, greatestLevel}
 use Rattle.element.specs.Control.{at}
 use Rattle.element.specs.Refusals.{Accepted, AboveLevel, WrongLength, Outside, verdictCodes}
-use Rattle.judge.specs.Verdict.{Judges}
+use Rattle.judge.specs.Verdict.{Answer, Judges}
 use Rattle.judge.specs.Elements.{subject}
 use Rattle.judge.specs.Twelve.{Row, twelve, Holds, AllHold}
 use Rattle.judge.proofs.Twelve.{twelve-hold}
-use Rattle.verdict.specs.Calls.{given, VerdictOf}
+use Rattle.verdict.specs.Calls.{given, VerdictOf, Only}
 use Rattle.verdict.specs.Twelve.{Called, AllCalled}
 use Rattle.verdict.proofs.Outcomes.{verdict-unique}
 
@@ -42,7 +43,7 @@ list-accepted k xs t =
     let (a, b) = T-and (eqb (length xs) (2 * nodeCount k)) (allWithin (coordinateLimit k) xs) t in
     ((λ f. f (eqb→eq (length xs) (2 * nodeCount k) a)), (λ f. N.not-le-of-lt (f .2) (within-at (coordinateLimit k) xs b (f .0))))
 
-abbrev accepts : Kind → ℕ → List ℤ → Bool
+abbrev pub accepts : Kind → ℕ → List ℤ → Bool
 accepts k l xs = leb l (greatestLevel k) && listed k xs
 
 kind-of-nodes : (k : Kind) → kindOf (nodeCount k) ≡ k
@@ -63,22 +64,27 @@ accepted-kind k l xs t =
     rw (kind-of-nodes k)
     (is-kind k, (level, (many, (inside, tt))))
 
+pub element-called : (k : Kind) (l : ℕ) (xs : List ℤ) (a : Answer) → T (accepts k l xs)
+    → Judges (subject k xs) l a
+    → Only (VerdictOf (nodeCount k) l xs) (given a)
+element-called k l xs a t j = record { allowed = v; no-other = λ s w. verdict-unique (nodeCount k) l xs s (given a) w v }
+  where
+    v : VerdictOf (nodeCount k) l xs (given a)
+    v =
+        inr (record {
+          accepted = accepted-kind k l xs t;
+          answer = a;
+          judges = subst (λ (x : Kind). Judges (subject x xs) l a) (sym (kind-of-nodes k)) j;
+          told = refl;
+        })
+
 -- ---- the list
 abbrev allAccepted : List Row → Bool
 allAccepted [] = true
 allAccepted (r ∷ rs) = accepts (r .kind) (r .limit) (r .coords) && allAccepted rs
 
 called : (r : Row) → Holds r → T (accepts (r .kind) (r .limit) (r .coords)) → Called r
-called r h t = record { allowed = v; no-other = λ s w. verdict-unique (nodeCount (r .kind)) (r .limit) (r .coords) s (given (r .answer)) w v }
-  where
-    v : VerdictOf (nodeCount (r .kind)) (r .limit) (r .coords) (given (r .answer))
-    v =
-        inr (record {
-          accepted = accepted-kind (r .kind) (r .limit) (r .coords) t;
-          answer = r .answer;
-          judges = subst (λ (k : Kind). Judges (subject k (r .coords)) (r .limit) (r .answer)) (sym (kind-of-nodes (r .kind))) (h .1);
-          told = refl;
-        })
+called r h t = element-called (r .kind) (r .limit) (r .coords) (r .answer) t (h .1)
 
 all-called : (rs : List Row) → AllHold rs → T (allAccepted rs) → AllCalled rs
 all-called [] h t = tt
