@@ -1,4 +1,5 @@
-// Element blocks, straight from the rules: their own writer, and the check record by record.
+// Element blocks of both versions, straight from the rules: their own writer, the check record by record and then of what is signed, and
+// the list.
 
 use crate::element::{code, coordinate_limit, greatest_level, Element};
 use crate::verdict::{Judged, Verdict};
@@ -18,13 +19,18 @@ pub fn record_bytes(r: &Record) -> Vec<u8> {
     out
 }
 
+// A block of version 1.
 pub fn block_bytes(records: &[Record]) -> Vec<u8> {
+    let records: Vec<Vec<u8>> = records.iter().map(record_bytes).collect();
+    assembled(1, &records)
+}
+
+// A block of that version, from the bytes of its records.
+pub fn assembled(version: u16, records: &[Vec<u8>]) -> Vec<u8> {
     let mut out = b"CEL".to_vec();
-    out.extend(1u16.to_le_bytes());
+    out.extend(version.to_le_bytes());
     out.extend((records.len() as u32).to_le_bytes());
-    for r in records {
-        out.extend(record_bytes(r));
-    }
+    out.extend(records.concat());
     out
 }
 
@@ -32,61 +38,124 @@ fn u32_at(b: &[u8], at: usize) -> u32 {
     u32::from_le_bytes([b[at], b[at + 1], b[at + 2], b[at + 3]])
 }
 
+// The version of a block.
+fn version(b: &[u8]) -> u16 {
+    u16::from_le_bytes([b[3], b[4]])
+}
+
+// A record as it is stored. Its two bytes behind the limit: `signed` is 0 unsigned, 1 signed valid, 2 signed invalid, and `level` is the
+// level of that verdict.
 pub struct Stored {
     pub id: u32,
     pub kind: u8,
     pub limit: u8,
+    pub signed: u8,
+    pub level: u8,
     pub pairs: Vec<i32>,
 }
 
 pub fn stored(b: &[u8], k: usize) -> Stored {
     let at = 9 + 80 * k;
     let pairs = (0..18).map(|i| u32_at(b, at + 8 + 4 * i) as i32).collect();
-    Stored { id: u32_at(b, at), kind: b[at + 4], limit: b[at + 5], pairs }
+    Stored { id: u32_at(b, at), kind: b[at + 4], limit: b[at + 5], signed: b[at + 6], level: b[at + 7], pairs }
 }
 
 impl Stored {
+    // The element with its stored limit.
     pub fn element(&self) -> Element {
         Element { kind: self.kind, limit: self.limit, coords: self.pairs[..2 * self.kind as usize].to_vec() }
     }
+
+    pub fn is_signed(&self) -> bool {
+        self.signed == 1 || self.signed == 2
+    }
+
+    // The record's verdict: with its signed level as limit, if it is signed.
+    pub fn verdict(&self) -> Verdict {
+        let limit = if self.is_signed() { self.level } else { self.limit };
+        Element { limit, ..self.element() }.verdict()
+    }
+
+    // Whether the two bytes are ones that a block of that version may have.
+    fn has_good_bytes(&self, version: u16) -> bool {
+        match (self.signed, self.level) {
+            (0, 0) => true,
+            (1 | 2, _) => version == 2,
+            _ => false,
+        }
+    }
+
+    // The record's code in a block of that version, where the id before is `last`; what is signed is not yet judged.
+    fn code(&self, version: u16, last: i64) -> u8 {
+        if self.kind != 6 && self.kind != 8 && self.kind != 9 {
+            return 1;
+        }
+        let greatest = greatest_level(self.kind);
+        if self.limit > greatest || version == 2 && self.is_signed() && self.level > greatest {
+            return 2;
+        }
+        let (nodes, unused) = self.pairs.split_at(2 * self.kind as usize);
+        if !self.has_good_bytes(version) || unused.iter().any(|&x| x != 0) {
+            return 9;
+        }
+        let most = coordinate_limit(self.kind);
+        if nodes.iter().any(|&x| (x as i64).abs() > most) {
+            return 4;
+        }
+        if self.id as i64 <= last {
+            return 10;
+        }
+        0
+    }
+}
+
+// The two bytes that say a verdict; undecided ones are not signed.
+pub fn signature(v: &Verdict) -> Option<[u8; 2]> {
+    match v.word {
+        "valid" => Some([1, v.level as u8]),
+        "invalid" => Some([2, v.level as u8]),
+        _ => None,
+    }
+}
+
+// The first of so many records that is signed, and not as its verdict says.
+fn wrongly_signed(b: &[u8], count: usize) -> Option<usize> {
+    (0..count).find(|&k| {
+        let r = stored(b, k);
+        r.is_signed() && signature(&r.verdict()) != Some([r.signed, r.level])
+    })
 }
 
 // The count, or the code and the record of the first fault.
 pub fn check(b: &[u8]) -> Result<usize, (u8, usize)> {
+    check_of(&[1, 2], b)
+}
+
+// The same where only these versions are taken.
+pub fn check_of(versions: &[u16], b: &[u8]) -> Result<usize, (u8, usize)> {
     if b.len() < 9 || &b[..3] != b"CEL" {
         return Err((6, 0));
     }
-    if b[3] != 1 || b[4] != 0 {
+    if !versions.contains(&version(b)) {
         return Err((7, 0));
     }
     let count = u32_at(b, 5) as u64;
     if count > 800 || b.len() as u64 != 9 + 80 * count {
         return Err((8, 0));
     }
+    let count = count as usize;
     let mut last: i64 = -1;
-    for k in 0..count as usize {
+    for k in 0..count {
         let r = stored(b, k);
-        let at = 9 + 80 * k;
-        if r.kind != 6 && r.kind != 8 && r.kind != 9 {
-            return Err((1, k));
+        match r.code(version(b), last) {
+            0 => last = r.id as i64,
+            c => return Err((c, k)),
         }
-        if r.limit > greatest_level(r.kind) {
-            return Err((2, k));
-        }
-        let used = 2 * r.kind as usize;
-        if b[at + 6] != 0 || b[at + 7] != 0 || r.pairs[used..].iter().any(|&x| x != 0) {
-            return Err((9, k));
-        }
-        let most = coordinate_limit(r.kind);
-        if r.pairs[..used].iter().any(|&x| (x as i64).abs() > most) {
-            return Err((4, k));
-        }
-        if r.id as i64 <= last {
-            return Err((10, k));
-        }
-        last = r.id as i64;
     }
-    Ok(count as usize)
+    match wrongly_signed(b, count) {
+        Some(k) => Err((19, k)),
+        None => Ok(count),
+    }
 }
 
 // The count of the block in the first `used` bytes, or the code and the record of the first fault.
@@ -124,25 +193,24 @@ pub fn list_words(v: &Verdict) -> String {
     format!("{} {} {} {} {}", v.word, v.level, v.i, v.j, v.cells)
 }
 
-// The lines of a list in which `judged` says what stands behind id and kind.
-pub fn list_of(b: &[u8], judged: impl Fn(&Element) -> String) -> Vec<String> {
+// The lines of a list in which `judged` says what stands behind a record's id and kind.
+pub fn list_of(b: &[u8], judged: impl Fn(&Stored) -> String) -> Vec<String> {
     let count = match check(b) {
         Err((code, record)) => return vec![format!("refused {} {}", code, record)],
         Ok(n) => n,
     };
-    let mut out = vec![format!("CEL 1 {}", count)];
+    let mut out = vec![format!("CEL {} {}", version(b), count)];
     for k in 0..count {
         let r = stored(b, k);
-        let e = r.element();
-        assert!(code(&e, true) == 0);
-        out.push(format!("{} {} {}", r.id, r.kind, judged(&e)));
+        assert!(code(&r.element(), true) == 0);
+        out.push(format!("{} {} {}", r.id, r.kind, judged(&r)));
     }
     out
 }
 
 // What `verdicts` prints, its lines.
 pub fn list(b: &[u8]) -> Vec<String> {
-    list_of(b, |e| list_words(&e.verdict()))
+    list_of(b, |r| list_words(&r.verdict()) + if r.is_signed() { " signed" } else { "" })
 }
 
 pub fn hex(b: &[u8]) -> String {

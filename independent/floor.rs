@@ -67,9 +67,9 @@ pub fn falls(p: u8, e: &Element, d: u32) -> bool {
     Floor { element: e, floor: p as Num * straight(e) }.first_bad(d).is_some()
 }
 
-// What `verdicts` prints under the floor, its lines.
+// What `verdicts` prints under the floor, its lines: what is signed is the plain verdict, and counts for nothing here.
 pub fn floor_list(p: u8, b: &[u8]) -> Vec<String> {
-    list_of(b, |e| match floor_verdict(p, e) {
+    list_of(b, |r| match floor_verdict(p, &r.element()) {
         Ok(v) => list_words(&v),
         Err(c) => format!("refused {}", c),
     })

@@ -1,5 +1,6 @@
 // Triangles under a floor on distortion, and blocks to be listed under one, from fixed seeds.
 
+use crate::answers::words;
 use crate::block::block_bytes;
 use crate::blocks::{damaged, records};
 use crate::element::{code, coordinate_limit, Element};
@@ -10,6 +11,14 @@ use crate::sets::{elements, shaken, Random};
 pub struct Question {
     pub p: u8,
     pub element: Element,
+}
+
+impl Question {
+    // The call as a line for the program `calls`.
+    pub fn line(&self) -> String {
+        let e = &self.element;
+        format!("floor {} {} {}{}", self.p, e.kind, e.limit, words(&e.coords))
+    }
 }
 
 const GREATEST_LEVEL: i64 = 7;

@@ -1,10 +1,12 @@
 // An independent judge: it makes sets of elements, blocks, mesh texts and texts of records from fixed seeds, and writes what the checker
 // must answer to them.
-//   independent DIR    writes calls.txt, floors.txt, lists.txt, floorlists.txt, meshes.txt and packs.txt in DIR
-//   independent -      answers the lines `floor ..`, `mesh ..` and `text ..` of standard input, a line each
-// A line of calls.txt, floors.txt, meshes.txt and packs.txt is `a line for the program calls -> its answer`; one of lists.txt is `a block
-// in hex -> what the program verdicts prints, its lines joined by " / "`, and one of floorlists.txt has the floor before the block.
+//   independent DIR    writes calls.txt, floors.txt, signs.txt, lists.txt, floorlists.txt, meshes.txt and packs.txt in DIR
+//   independent -      answers the lines of standard input as the program calls does, a line each
+// A line of calls.txt, floors.txt, signs.txt, meshes.txt and packs.txt is `a line for the program calls -> its answer`; one of lists.txt
+// is `a block in hex -> what the program verdicts prints, its lines joined by " / "`, and one of floorlists.txt has the floor before the
+// block.
 
+mod answers;
 mod block;
 mod blocks;
 mod element;
@@ -14,95 +16,59 @@ mod mesh;
 mod pack;
 mod packs;
 mod sets;
+mod sign;
+mod signs;
 mod texts;
 mod verdict;
 mod words;
 
-use block::{block_bytes, check, hex, list, stored};
+use answers::{answer, words};
+use block::{block_bytes, check, hex, list};
 use blocks::{damaged, records};
 use element::{code, Element};
-use floor::{floor_list, floor_verdict};
-use mesh::append_mesh;
-use pack::append_text;
+use floor::floor_list;
 use sets::{elements, Random};
-use texts::Question;
-use verdict::{Judged, Verdict};
-use std::fmt::Write as _;
 use std::sync::{Arc, Mutex};
 
-fn words<T: ToString>(l: &[T]) -> String {
-    l.iter().map(|x| format!(" {}", x.to_string())).collect()
+// ---- lines for the program `calls`
+
+fn verdict_question(e: &Element) -> String {
+    format!("verdict {} {}{}", e.kind, e.limit, words(&e.coords))
 }
 
-// The answer of `calls` that a verdict or a code is.
-fn verdict_answer(told: Result<Verdict, u8>) -> String {
-    match told {
-        Ok(v) => format!("0 {} {} {} {} {} {}", v.word, v.level, v.i, v.j, v.value, v.cells),
-        Err(c) => format!("{} - 0 0 0 0 0", c),
-    }
+fn control_questions(e: &Element, room: u64) -> Vec<String> {
+    let c = words(&e.coords);
+    vec![format!("control {} {}{}", room, e.kind, c), format!("bounds {}{}", e.kind, c)]
 }
 
-fn verdict_line(e: &Element) -> String {
-    let told = match code(e, true) {
-        0 => Ok(e.verdict()),
-        c => Err(c),
+fn block_questions(b: &[u8], r: &mut Random) -> Vec<String> {
+    let h = hex(b);
+    let fetched = match check(b) {
+        Ok(n) => vec![0, n as u64 / 2, n as u64, r.next() >> 32],
+        Err(_) => vec![0],
     };
-    format!("verdict {} {}{} -> {}\n", e.kind, e.limit, words(&e.coords), verdict_answer(told))
+    let mut out = vec![format!("check {}", h), format!("walk {}", h)];
+    out.extend(fetched.iter().map(|k| format!("fetch {} {}", h, k)));
+    out
 }
 
-fn floor_line(q: &floors::Question) -> String {
-    let e = &q.element;
-    format!("floor {} {} {}{} -> {}\n", q.p, e.kind, e.limit, words(&e.coords), verdict_answer(floor_verdict(q.p, e)))
+// ---- lines of the files
+
+// A line for the program `calls` with its answer.
+fn answered(question: &String) -> String {
+    format!("{} -> {}\n", question, answer(question))
+}
+
+fn list_line(b: &Vec<u8>) -> String {
+    format!("{} -> {}\n", hex(b), list(b).join(" / "))
 }
 
 fn floor_list_line((p, b): &(u8, Vec<u8>)) -> String {
     format!("{} {} -> {}\n", p, hex(b), floor_list(*p, b).join(" / "))
 }
 
-fn control_lines(e: &Element, room: u64) -> String {
-    let (mut a, mut b) = (format!("{} 0", code(e, false)), format!("{} 0 0", code(e, false)));
-    if code(e, false) == 0 {
-        let v = e.control_values();
-        b = format!("0 {} {}", v.iter().min().unwrap(), v.iter().max().unwrap());
-        a = if (room as usize) < v.len() { "5 0".to_string() } else { format!("0 {}{}", v.len(), words(&v)) };
-    }
-    let c = words(&e.coords);
-    format!("control {} {}{} -> {}\nbounds {}{} -> {}\n", room, e.kind, c, a, e.kind, c, b)
-}
-
-fn record_words(b: &[u8], k: usize) -> String {
-    let s = stored(b, k);
-    format!("0 0 {} {} {}{}", s.id, s.kind, s.limit, words(&s.pairs))
-}
-
-fn block_lines(b: &[u8], r: &mut Random) -> String {
-    let mut out = String::new();
-    let zeros = " 0".repeat(21);
-    let h = hex(b);
-    match check(b) {
-        Ok(n) => {
-            let _ = write!(out, "check {} -> 0 0 {}\n", h, n);
-            let mut walk = "0 0".to_string();
-            for k in 0..n {
-                let _ = write!(walk, " / {}", record_words(b, k));
-            }
-            let _ = write!(out, "walk {} -> {} / end\n", h, walk);
-            for k in [0, n as u64 / 2, n as u64, r.next() >> 32] {
-                let answer = if k < n as u64 { record_words(b, k as usize) } else { format!("12 0{}", zeros) };
-                let _ = write!(out, "fetch {} {} -> {}\n", h, k, answer);
-            }
-        }
-        Err((c, k)) => {
-            let _ = write!(out, "check {} -> {} {} 0\n", h, c, k);
-            let _ = write!(out, "walk {} -> {} {} / end\n", h, c, k);
-            let _ = write!(out, "fetch {} 0 -> {} {}{}\n", h, c, k, zeros);
-        }
-    }
-    out
-}
-
 // The lines of `f` over the list, on two threads, in order.
-fn in_parallel<T: Send + Sync + 'static>(list: Vec<T>, f: fn(&T) -> String) -> Vec<String> {
+fn in_parallel<T: Send + Sync + 'static>(list: Vec<T>, f: fn(&T) -> String) -> String {
     let n = list.len();
     let list = Arc::new(list);
     let next = Arc::new(Mutex::new(0));
@@ -127,105 +93,62 @@ fn in_parallel<T: Send + Sync + 'static>(list: Vec<T>, f: fn(&T) -> String) -> V
     for t in threads {
         t.join().unwrap();
     }
-    Arc::try_unwrap(out).unwrap().into_inner().unwrap()
+    Arc::try_unwrap(out).unwrap().into_inner().unwrap().concat()
 }
 
-// The call as a line for the program `calls`.
-fn mesh_question(q: &Question) -> String {
-    format!("mesh {} {} {} {}", q.limit, q.used, hex(&q.buffer), hex(&q.text))
-}
+// ---- the sets
 
-// The answer of `calls` to that line.
-fn mesh_answer(q: &Question) -> String {
-    let (m, after) = append_mesh(&q.text, q.limit, &q.buffer, q.used);
-    format!("{} {} {} {} {} {}", m.code, m.record, m.used, m.appended, m.passed, hex(&after))
-}
-
-// The call as a line for the program `calls`.
-fn text_question(q: &packs::Question) -> String {
-    format!("text {} {} {}", q.used, hex(&q.buffer), hex(&q.text))
-}
-
-// The answer of `calls` to that line.
-fn text_answer(q: &packs::Question) -> String {
-    match append_text(&q.text, &q.buffer, q.used) {
-        Ok((used, appended, after)) => format!("0 0 0 0 {} {} {}", used, appended, hex(&after)),
-        Err(f) => format!("{} {} {} {} 0 0 {}", f.code, f.record, f.line, f.word, hex(&q.buffer)),
-    }
-}
-
-// The bytes that `hex` wrote.
-fn unhex(h: &str) -> Option<Vec<u8>> {
-    if h == "-" {
-        return Some(Vec::new());
-    }
-    h.as_bytes().chunks(2).map(|c| u8::from_str_radix(std::str::from_utf8(c).ok()?, 16).ok()).collect()
-}
-
-// The answer to a line `floor ..`, `mesh ..` or `text ..`.
-fn answer(line: &str) -> Option<String> {
-    let w: Vec<&str> = line.split(' ').collect();
-    match w[..] {
-        ["floor", p, kind, limit, ref coords @ ..] => {
-            let coords: Option<Vec<i32>> = coords.iter().map(|x| x.parse().ok()).collect();
-            let e = Element { kind: kind.parse().ok()?, limit: limit.parse().ok()?, coords: coords? };
-            Some(verdict_answer(floor_verdict(p.parse().ok()?, &e)))
-        }
-        ["mesh", limit, used, buffer, text] => Some(mesh_answer(&Question {
-            limit: limit.parse().ok()?,
-            used: used.parse().ok()?,
-            buffer: unhex(buffer)?,
-            text: unhex(text)?,
-        })),
-        ["text", used, buffer, text] => {
-            Some(text_answer(&packs::Question { used: used.parse().ok()?, buffer: unhex(buffer)?, text: unhex(text)? }))
-        }
-        _ => None,
-    }
-}
-
-fn main() {
-    let dir = std::env::args().nth(1).expect("usage: independent DIR, or independent -");
-    if dir == "-" {
-        for line in std::io::stdin().lines() {
-            println!("{}", answer(&line.expect("a line")).unwrap_or("?".to_string()));
-        }
-        return;
-    }
+// Lines about elements and blocks, and blocks to be listed.
+fn calls_and_blocks() -> (Vec<String>, Vec<Vec<u8>>) {
     let all = elements();
     let mut r = Random(7);
-    let mut calls = String::new();
+    let (mut calls, mut blocks) = (Vec::new(), Vec::new());
     for e in all.iter().step_by(16) {
         let room = if r.range(0, 9) == 0 { r.range(0, 16) as u64 } else { r.range(16, 64) as u64 };
-        calls += &control_lines(e, room);
+        calls.extend(control_questions(e, room));
     }
-    let mut lists = String::new();
     // an element of these blocks is one that `verdict` accepts, and not a slow one
     let fits = |e: &Element| code(e, true) == 0 && e.limit <= 4;
     for size in [0, 1, 2, 3, 4, 5, 8, 13, 800] {
         let b = block_bytes(&records(&mut r, &all, size, fits));
-        lists += &format!("{} -> {}\n", hex(&b), list(&b).join(" / "));
+        blocks.push(b.clone());
         if size > 20 {
             continue;
         }
-        calls += &block_lines(&b, &mut r);
+        calls.extend(block_questions(&b, &mut r));
         for _ in 0..24 {
             let d = damaged(&mut r, &b);
-            calls += &block_lines(&d, &mut r);
-            lists += &format!("{} -> {}\n", hex(&d), list(&d).join(" / "));
+            calls.extend(block_questions(&d, &mut r));
+            blocks.push(d);
         }
     }
-    let verdicts = in_parallel(all, verdict_line);
-    calls += &verdicts.concat();
-    std::fs::write(format!("{}/calls.txt", dir), calls).expect("calls.txt");
-    std::fs::write(format!("{}/lists.txt", dir), lists).expect("lists.txt");
-    let asked = floors::questions();
-    let floor_lists = in_parallel(floors::blocks(&asked), floor_list_line);
-    std::fs::write(format!("{}/floorlists.txt", dir), floor_lists.concat()).expect("floorlists.txt");
-    let floors = in_parallel(asked, floor_line);
-    std::fs::write(format!("{}/floors.txt", dir), floors.concat()).expect("floors.txt");
-    let meshes: String = texts::questions().iter().map(|q| format!("{} -> {}\n", mesh_question(q), mesh_answer(q))).collect();
-    std::fs::write(format!("{}/meshes.txt", dir), meshes).expect("meshes.txt");
-    let packs: String = packs::questions().iter().map(|q| format!("{} -> {}\n", text_question(q), text_answer(q))).collect();
-    std::fs::write(format!("{}/packs.txt", dir), packs).expect("packs.txt");
+    calls.extend(all.iter().map(verdict_question));
+    (calls, blocks)
+}
+
+fn write_sets(dir: &str) {
+    let write = |name: &str, lines: String| std::fs::write(format!("{}/{}", dir, name), lines).expect(name);
+    let (calls, mut blocks) = calls_and_blocks();
+    let floors = floors::questions();
+    let mut floor_blocks = floors::blocks(&floors);
+    // signed blocks stand behind the others
+    let stock = signs::stock();
+    blocks.extend(signs::blocks(&stock));
+    floor_blocks.extend(signs::floor_blocks(&stock));
+    write("calls.txt", in_parallel(calls, answered));
+    write("lists.txt", in_parallel(blocks, list_line));
+    write("floors.txt", in_parallel(floors.iter().map(floors::Question::line).collect(), answered));
+    write("floorlists.txt", in_parallel(floor_blocks, floor_list_line));
+    write("signs.txt", in_parallel(signs::questions(&stock), answered));
+    write("meshes.txt", in_parallel(texts::questions().iter().map(texts::Question::line).collect(), answered));
+    write("packs.txt", in_parallel(packs::questions().iter().map(packs::Question::line).collect(), answered));
+}
+
+fn main() {
+    let dir = std::env::args().nth(1).expect("usage: independent DIR, or independent -");
+    if dir != "-" {
+        return write_sets(&dir);
+    }
+    let lines = std::io::stdin().lines().map(|l| l.expect("a line")).collect();
+    print!("{}", in_parallel(lines, |l: &String| answer(l) + "\n"));
 }

@@ -1,6 +1,6 @@
 // Texts of records, good and faulty, and blocks to append them to, from a fixed seed.
 
-use crate::block::block_bytes;
+use crate::block::{block_bytes, hex};
 use crate::element::greatest_level;
 use crate::sets::Random;
 use crate::texts::{coordinate, coordinates, damaged, number, once_in, pick_word, spoil, stored_records, FRACTIONS, WORDS};
@@ -10,6 +10,13 @@ pub struct Question {
     pub text: Vec<u8>,
     pub buffer: Vec<u8>,
     pub used: u64,
+}
+
+impl Question {
+    // The call as a line for the program `calls`.
+    pub fn line(&self) -> String {
+        format!("text {} {} {}", self.used, hex(&self.buffer), hex(&self.text))
+    }
 }
 
 // What can be wrong, in the order in which it counts; `Cut` counts at the last line only.

@@ -1,6 +1,6 @@
 // Gmsh texts, good and damaged, and blocks to append them to, from a fixed seed.
 
-use crate::block::{block_bytes, Record};
+use crate::block::{block_bytes, hex, Record};
 use crate::element::{coordinate_limit, Element};
 use crate::mesh::places;
 use crate::sets::{shaken, Random};
@@ -11,6 +11,13 @@ pub struct Question {
     pub limit: u8,
     pub buffer: Vec<u8>,
     pub used: u64,
+}
+
+impl Question {
+    // The call as a line for the program `calls`.
+    pub fn line(&self) -> String {
+        format!("mesh {} {} {} {}", self.limit, self.used, hex(&self.buffer), hex(&self.text))
+    }
 }
 
 // The rows of a text before it is written, word by word.

@@ -2,13 +2,14 @@
 --   last-record, more-length : a list with one record more
 --   new-formed     : a record that is accepted is well-formed; its used coordinates are those given
 --   block-over     : bytes written behind a block, and another count
---   appended-bytes, appended-holds : an accepted append leaves the block of the old records and the new one
+--   appended-bytes, appended-holds : an accepted append leaves the block of the old records and the new one, in the same version
 --   appended-rest  : and all bytes behind it
 --   built-holds    : after a start and any run of accepted appends the first `used` bytes are the block of the records appended
 --   built-checks, built-fetches : so a check gives their number, and a fetch of k exactly the k-th of them
 -- Assumes nothing.
-use mathlib.Core.Path.{_≡_, sym, ap, ap₂, _∙_, subst}
+use mathlib.Core.Path.{_≡_, refl, sym, ap, ap₂, _∙_, subst}
 use mathlib.Core.List.{List, [], _∷_, _++_, append-nil, append-assoc}
+use mathlib.Core.Logic.{inl, ⊎-elim}
 use Prim.Native.Nat.{ℕ, suc, _+_, _-_, _*_, _^_, _≤_, _<_}
 use native.Mathlib.Nat as N
 use native.Mathlib.Numerals.{add-one}
@@ -22,6 +23,8 @@ use Rattle.record.specs.declared.Record.{Record}
 use Rattle.record.specs.Record.{used, WellFormed, recordBytes, blank}
 use Rattle.record.proofs.Known.{not-not, known-small}
 use Rattle.record.proofs.Codec.{record-length}
+use Rattle.signs.specs.Signs.{Differs}
+use Rattle.signs.proofs.Kept.{unsigned-kept}
 use Rattle.block.specs.declared.Checked.{Checked}
 use Rattle.block.specs.declared.Fetched.{Fetched}
 use Rattle.block.specs.Block.{header, recordsBytes, blockBytes, record-of, Holds}
@@ -43,8 +46,8 @@ module _ {l : List ℕ} {room id n level : ℕ} {xs : List ℤ} (s : RoomSound l
   given = not-not (length xs) (2 * n) (s .element .1 .1 .0)
 
   -- "a record of kind 6 or 8 comes back with its unused pairs zero" is rest-zero
-  pub new-formed : id < 256 ^ 4 → WellFormed (newRecord id n level xs)
-  new-formed h =
+  pub new-formed : (v : ℕ) → id < 256 ^ 4 → WellFormed v (newRecord id n level xs)
+  new-formed v h =
       record {
         id-fits = h;
         kind-known = s .element .0;
@@ -52,6 +55,8 @@ module _ {l : List ℕ} {room id n level : ℕ} {xs : List ℤ} (s : RoomSound l
         nine-pairs = padded-length xs (omega (arith, given, known-small n (s .element .0)));
         inside = rw (padded-used xs (2 * n) given) (s .element .1 .1 .1 .0);
         rest-zero = λ k. padded-rest xs (2 * n) k given;
+        sign-level = λ s. s .0 .0 refl;
+        sign-known = ⊎-elim N.not-suc-le-zero (λ s. s .1 refl);
       }
 
   pub new-used : used (newRecord id n level xs) ≡ xs
@@ -68,29 +73,29 @@ pub more-length : (rs : List Record) (r : Record) → length (rs ++ (r ∷ [])) 
 more-length rs r = length-append rs (r ∷ []) ∙ add-one (length rs)
 
 -- ---- the bytes
-block-more : (rs : List Record) (r : Record) → blockBytes (rs ++ (r ∷ [])) ≡ header (suc (length rs)) ++ (recordsBytes rs ++ recordBytes r)
-block-more rs r =
-    ap₂ (λ (n : ℕ) (s : List ℕ). header n ++ s) (more-length rs r)
+block-more : (v : ℕ) (rs : List Record) (r : Record) → blockBytes v (rs ++ (r ∷ [])) ≡ header v (suc (length rs)) ++ (recordsBytes rs ++ recordBytes r)
+block-more v rs r =
+    ap₂ (λ (n : ℕ) (s : List ℕ). header v n ++ s) (more-length rs r)
     (records-more rs (r ∷ []) ∙ ap (λ (s : List ℕ). recordsBytes rs ++ s) (append-nil (recordBytes r)))
 
 -- the block's bytes, with others behind them and another count
-pub block-over : (b : List ℕ) (used : ℕ) (rs : List Record) (v : List ℕ) (n : ℕ) → take used b ≡ blockBytes rs
-    → withCount (over b used v) n ≡ (header n ++ (recordsBytes rs ++ v)) ++ drop (used + length v) b
-block-over b used rs v n e =
-    let rest = drop (used + length v) b in
-    ap (λ (s : List ℕ). withCount (s ++ (v ++ rest)) n) e
-    ∙ ap (λ (s : List ℕ). header n ++ s) (sym (append-assoc (recordsBytes rs) v rest))
-    ∙ sym (append-assoc (header n) (recordsBytes rs ++ v) rest)
+pub block-over : (v : ℕ) (b : List ℕ) (used : ℕ) (rs : List Record) (w : List ℕ) (n : ℕ) → take used b ≡ blockBytes v rs
+    → withCount (over b used w) n ≡ (header v n ++ (recordsBytes rs ++ w)) ++ drop (used + length w) b
+block-over v b used rs w n e =
+    let rest = drop (used + length w) b in
+    ap (λ (s : List ℕ). withCount (s ++ (w ++ rest)) n) e
+    ∙ ap (λ (s : List ℕ). header v n ++ s) (sym (append-assoc (recordsBytes rs) w rest))
+    ∙ sym (append-assoc (header v n) (recordsBytes rs ++ w) rest)
 
-written-is : (b : List ℕ) (used : ℕ) (rs : List Record) (r : Record) → take used b ≡ blockBytes rs → length (recordBytes r) ≡ 80
-    → withCount (over b used (recordBytes r)) (suc (length rs)) ≡ blockBytes (rs ++ (r ∷ [])) ++ drop (used + 80) b
-written-is b used rs r e n =
-    block-over b used rs (recordBytes r) (suc (length rs)) e
-    ∙ ap₂ (λ (s : List ℕ) (i : ℕ). s ++ drop (used + i) b) (sym (block-more rs r)) n
+written-is : (v : ℕ) (b : List ℕ) (used : ℕ) (rs : List Record) (r : Record) → take used b ≡ blockBytes v rs → length (recordBytes r) ≡ 80
+    → withCount (over b used (recordBytes r)) (suc (length rs)) ≡ blockBytes v (rs ++ (r ∷ [])) ++ drop (used + 80) b
+written-is v b used rs r e n =
+    block-over v b used rs (recordBytes r) (suc (length rs)) e
+    ∙ ap₂ (λ (s : List ℕ) (i : ℕ). s ++ drop (used + i) b) (sym (block-more v rs r)) n
 
 -- ---- an accepted append
-module _ {b : List ℕ} {used id n level : ℕ} {xs : List ℤ} {r : Appended} {a : List ℕ} {rs : List Record}
-    (h : Holds (take used b) rs) (fits : id < 256 ^ 4) (p : IsAppended b used id n level xs r a) where
+module _ {v : ℕ} {b : List ℕ} {used id n level : ℕ} {xs : List ℤ} {r : Appended} {a : List ℕ} {rs : List Record}
+    (h : Holds v (take used b) rs) (fits : id < 256 ^ 4) (p : IsAppended b used id n level xs r a) where
   abbrev new : Record
   new = newRecord id n level xs
 
@@ -100,33 +105,34 @@ module _ {b : List ℕ} {used id n level : ℕ} {xs : List ℤ} {r : Appended} {
   abbrev all : List Record
   all = rs ++ (new ∷ [])
 
-  formed : WellFormed new
-  formed = new-formed sound fits
+  formed : WellFormed v new
+  formed = new-formed sound v fits
 
-  pub appended-bytes : a ≡ blockBytes all ++ drop (used + 80) b
+  pub appended-bytes : a ≡ blockBytes v all ++ drop (used + 80) b
   appended-bytes =
       p .written ∙ ap (λ (m : ℕ). withCount (over b used (recordBytes new)) (suc m)) (block-count h)
-      ∙ written-is b used rs new (h .written) (record-length new formed)
+      ∙ written-is v b used rs new (h .written) (record-length new formed)
 
   old-length : used ≡ 9 + 80 * length rs
   old-length = sym (length-take-le used b (append-within b used id n level xs (p .accepted))) ∙ block-length h
 
-  all-length : length (blockBytes all) ≡ used + 80
+  all-length : length (blockBytes v all) ≡ used + 80
   all-length =
-      ap length (block-more rs new)
+      ap length (block-more v rs new)
       ∙ omega (arith, length-append (recordsBytes rs) (recordBytes new), records-length rs (h .formed), record-length new formed, old-length)
 
   all-few : length all ≤ 800
   all-few = omega (arith, more-length rs new, N.lt-of-not-le (sound .other .1 .0), block-count h)
 
-  all-formed : (k : ℕ) → k < length all → WellFormed (record-of all k)
-  all-formed k i = go (decLe (suc k) (length rs))
+  -- what holds of the old records, and of the new one, holds of all
+  every : (P : Record → Type 0) → P new → ((k : ℕ) → k < length rs → P (record-of rs k)) → (k : ℕ) → k < length all → P (record-of all k)
+  every P p q k i = go (decLe (suc k) (length rs))
     where
-      go : Dec (k < length rs) → WellFormed (record-of all k)
-      go (yes j) = subst WellFormed (sym (old-record rs new k j)) (h .formed k j)
+      go : Dec (k < length rs) → P (record-of all k)
+      go (yes j) = subst P (sym (old-record rs new k j)) (q k j)
       go (no j) =
           let e : length rs ≡ k = omega (arith, more-length rs new) in
-          subst (λ (m : ℕ). WellFormed (record-of all m)) e (subst WellFormed (sym (last-record rs new)) formed)
+          subst (λ (m : ℕ). P (record-of all m)) e (subst P (sym (last-record rs new)) p)
 
   -- the last id of the old records is below the new one
   above : (k : ℕ) → suc k ≡ length rs → record-of rs k .id < id
@@ -144,33 +150,37 @@ module _ {b : List ℕ} {used id n level : ℕ} {xs : List ℤ} {r : Appended} {
           let e : suc k ≡ length rs = omega (arith, more-length rs new) in
           rw (old-record rs new k (omega arith), ap (record-of all) e ∙ last-record rs new) (above k e)
 
-  pub appended-holds : Holds (take (used + 80) a) all
+  pub appended-holds : Holds v (take (used + 80) a) all
   appended-holds =
       record {
-        written = ap (take (used + 80)) appended-bytes ∙ take-at (blockBytes all) (drop (used + 80) b) (used + 80) all-length;
+        version = h .version;
+        written = ap (take (used + 80)) appended-bytes ∙ take-at (blockBytes v all) (drop (used + 80) b) (used + 80) all-length;
         few = all-few;
-        formed = all-formed;
+        formed = every (WellFormed v) formed (h .formed);
         rise = all-rise;
+        kept = every (λ (q : Record). ¬ Differs q) (unsigned-kept new refl) (h .kept);
       }
 
   pub appended-rest : drop (used + 80) a ≡ drop (used + 80) b
-  appended-rest = ap (drop (used + 80)) appended-bytes ∙ drop-at (blockBytes all) (drop (used + 80) b) (used + 80) all-length
+  appended-rest = ap (drop (used + 80)) appended-bytes ∙ drop-at (blockBytes v all) (drop (used + 80) b) (used + 80) all-length
 
 -- ---- a run of calls
-empty-holds : (b a : List ℕ) (r : Started) → IsStarted b r a → Holds (take (r .used) a) []
+empty-holds : (b a : List ℕ) (r : Started) → IsStarted b r a → Holds 1 (take (r .used) a) []
 empty-holds b a r p =
     record {
+      version = inl refl;
       written = ap₂ (λ (m : ℕ) (s : List ℕ). take m s) (ap (λ (r : Started). r .used) (p .answer)) (p .written);
       few = omega arith;
       formed = λ k i. absurd (N.not-suc-le-zero i);
       rise = λ k i. absurd (N.not-suc-le-zero i);
+      kept = λ k i. absurd (N.not-suc-le-zero i);
     }
 
-pub built-holds : {b : List ℕ} {m : ℕ} {rs : List Record} → Built b m rs → Holds (take m b) rs
+pub built-holds : {b : List ℕ} {m : ℕ} {rs : List Record} → Built b m rs → Holds 1 (take m b) rs
 built-holds (begun b a r p e) = empty-holds b a r (started-is b r a p e)
 built-holds (grown b m rs id n level xs r a p fits q e) =
     let s = appended-is b m id n level xs r a q e in
-    subst (λ (k : ℕ). Holds (take k a) (rs ++ (newRecord id n level xs ∷ []))) (sym (ap (λ (r : Appended). r .used) (s .answer)))
+    subst (λ (k : ℕ). Holds 1 (take k a) (rs ++ (newRecord id n level xs ∷ []))) (sym (ap (λ (r : Appended). r .used) (s .answer)))
     (appended-holds (built-holds p) fits s)
 
 module _ {b : List ℕ} {m : ℕ} {rs : List Record} (p : Built b m rs) where

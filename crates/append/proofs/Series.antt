@@ -65,25 +65,25 @@ stops-passes {low} {count} {room} {gs} {c} (here {g = g} r) (first a p) = refuse
 stops-passes (later a t) (first w p) = stops-passes t p
 
 -- ---- from a state on
-pub state-stops : {b : List ℕ} {used : ℕ} {rs : List Record} {low count room : ℕ} {gs : List Given} {c : ℕ}
-    → State b used rs low count room
+pub state-stops : {v : ℕ} {b : List ℕ} {used : ℕ} {rs : List Record} {low count room : ℕ} {gs : List Given} {c : ℕ}
+    → State v b used rs low count room
     → IdsFit gs
     → Stops low count room gs c
     → (a : List ℕ) × Series b used gs (record { code = c; number = 0; used = 0 }) a
-state-stops {b} {used} {rs} {low} {count} {room} {gs} {c} s f (here {g = g} r) = (
+state-stops {v} {b} {used} {rs} {low} {count} {room} {gs} {c} s f (here {g = g} r) = (
   b,
   stopped (inl (record { refused = refused-at s g c r; no-used = refl; untouched = refl }))
       (refused-some (nextCodes low count room g) c tt r),
 )
-state-stops {b} {used} s f (later {g = g} a t) =
+state-stops s f (later {g = g} a t) =
     let n = state-stops (state-next s g (f .0) a) (f .1) t in
     (n .0, onward (inr (appended s g a)) refl (n .1))
 
-pub state-passes : {b : List ℕ} {used : ℕ} {rs : List Record} {low count room : ℕ} {gs : List Given}
-    → State b used rs low count room
+pub state-passes : {v : ℕ} {b : List ℕ} {used : ℕ} {rs : List Record} {low count room : ℕ} {gs : List Given}
+    → State v b used rs low count room
     → IdsFit gs
     → Passes low count room gs
-    → Ran b used gs rs (used + 80 * length gs) (filled b used gs)
+    → Ran v b used gs rs (used + 80 * length gs) (filled b used gs)
 state-passes s f p = ran-exact (s .held) (ran s f p .2)
 
 -- ---- over a block
@@ -114,36 +114,36 @@ module _ (b : List ℕ) (used : ℕ) where
   pub filled-none : Bytes b → Accepted (bufferCodes b used) → filled b used [] ≡ b
   filled-none p ok = let h = state-good b used p ok .held in sym (ran-filled {used = used} h (ran-none {used = used} h))
 
-  pub series-holds : {gs : List Given} {rs : List Record}
+  pub series-holds : {v : ℕ} {gs : List Given} {rs : List Record}
       → used ≤ length b
-      → Holds (take used b) rs
+      → Holds v (take used b) rs
       → IdsFit gs
       → Passes (lowest (take used b) (countOf (take used b))) (countOf (take used b)) (length b - used) gs
-      → Holds (take (used + 80 * length gs) (filled b used gs)) (rs ++ records gs)
+      → Holds v (take (used + 80 * length gs) (filled b used gs)) (rs ++ records gs)
   series-holds w h f t = state-passes (state-of w h) f t .holds
 
-  pub series-rest : {gs : List Given} {rs : List Record}
+  pub series-rest : {v : ℕ} {gs : List Given} {rs : List Record}
       → used ≤ length b
-      → Holds (take used b) rs
+      → Holds v (take used b) rs
       → IdsFit gs
       → Passes (lowest (take used b) (countOf (take used b))) (countOf (take used b)) (length b - used) gs
       → drop (used + 80 * length gs) (filled b used gs) ≡ drop (used + 80 * length gs) b
   series-rest w h f t = state-passes (state-of w h) f t .rest
 
 -- ---- what a run leaves is read back
-pub series-reads : {b : List ℕ} {used : ℕ} {gs : List Given} {r : Appended} {a : List ℕ} {rs : List Record}
+pub series-reads : {v : ℕ} {b : List ℕ} {used : ℕ} {gs : List Given} {r : Appended} {a : List ℕ} {rs : List Record}
     → Series b used gs r a
     → r .code ≡ 0
     → IdsFit gs
-    → Holds (take used b) rs
-    → Holds (take (r .used) a) (rs ++ records gs)
+    → Holds v (take used b) rs
+    → Holds v (take (r .used) a) (rs ++ records gs)
 series-reads {rs = rs} ended e f h = rw (append-nil rs) h
 series-reads (stopped p n) e f h = absurd (n e)
-series-reads {b} {used} {rs = rs} (onward {g = g} {gs = gs} {r = r} {a = a} p z s) e f h =
+series-reads {v} {b} {used} {rs = rs} (onward {g = g} {gs = gs} {r = r} {a = a} p z s) e f h =
     let q = appended-is b used (g .id) (g .kind) (g .limit) (g .coords) r a p z in
-    let k : Holds (take (used + 80) a) (rs ++ (given g ∷ [])) = appended-holds h (f .0) q in
-    let m = subst (λ n. Holds (take n a) (rs ++ (given g ∷ []))) (ap (λ x. x .used) (sym (q .answer))) k in
-    subst (Holds _) (append-assoc rs (given g ∷ []) (records gs)) (series-reads s e (f .1) m)
+    let k : Holds v (take (used + 80) a) (rs ++ (given g ∷ [])) = appended-holds h (f .0) q in
+    let m = subst (λ n. Holds v (take n a) (rs ++ (given g ∷ []))) (ap (λ x. x .used) (sym (q .answer))) k in
+    subst (Holds v _) (append-assoc rs (given g ∷ []) (records gs)) (series-reads s e (f .1) m)
 
 -- ---- and all bytes behind it stay
 drop-further : (m n : ℕ) (a b : List ℕ) → m ≤ n → drop m a ≡ drop m b → drop n a ≡ drop n b
@@ -151,17 +151,17 @@ drop-further m n a b h e =
     let k : m + (n - m) ≡ n = omega arith in
     ap (λ i. drop i a) (sym k) ∙ sym (drop-drop (n - m) m a) ∙ ap (drop (n - m)) e ∙ drop-drop (n - m) m b ∙ ap (λ i. drop i b) k
 
-pub series-behind : {b : List ℕ} {used : ℕ} {gs : List Given} {r : Appended} {a : List ℕ} {rs : List Record}
+pub series-behind : {v : ℕ} {b : List ℕ} {used : ℕ} {gs : List Given} {r : Appended} {a : List ℕ} {rs : List Record}
     → Series b used gs r a
     → r .code ≡ 0
     → IdsFit gs
-    → Holds (take used b) rs
+    → Holds v (take used b) rs
     → (used ≤ r .used) × (drop (r .used) a ≡ drop (r .used) b)
 series-behind ended e f h = (omega arith, refl)
 series-behind (stopped p n) e f h = absurd (n e)
-series-behind {b} {used} {rs = rs} (onward {g = g} {gs = gs} {r = r} {s = s} {a = a} p z o) e f h =
+series-behind {v} {b} {used} {rs = rs} (onward {g = g} {gs = gs} {r = r} {s = s} {a = a} p z o) e f h =
     let q = appended-is b used (g .id) (g .kind) (g .limit) (g .coords) r a p z in
     let u : r .used ≡ used + 80 = ap (λ x. x .used) (q .answer) in
-    let k : Holds (take (used + 80) a) (rs ++ (given g ∷ [])) = appended-holds h (f .0) q in
-    let i = series-behind o e (f .1) (subst (λ n. Holds (take n a) (rs ++ (given g ∷ []))) (sym u) k) in
+    let k : Holds v (take (used + 80) a) (rs ++ (given g ∷ [])) = appended-holds h (f .0) q in
+    let i = series-behind o e (f .1) (subst (λ n. Holds v (take n a) (rs ++ (given g ∷ []))) (sym u) k) in
     (omega (arith, u, i .0), i .1 ∙ drop-further (used + 80) (s .used) a b (omega (arith, u, i .0)) (appended-rest h (f .0) q))

@@ -1,7 +1,7 @@
 -- A run of appends that stops, parted at the one that is refused.
 --   Split low count room gs c == gs are some that pass, one that is refused with the code c, and those behind it
 --   stops-split    : what stops is parted so
---   Left b used gs low count room == what a run over gs without a fault leaves, with the numbers that are carried on
+--   Left v b used gs low count room == what a run over gs without a fault leaves, with the numbers that are carried on
 --   state-left     : the run over some that pass, from a state on
 --   series-split   : over a good block: those before are appended, and the call of the one is refused
 --   series-then    : where those before are appended and the next call is refused the run stops there
@@ -52,22 +52,22 @@ stops-split (later {g = g} a t) =
     }
 
 -- ---- those before
-pub record Left (b : List ℕ) (used : ℕ) (gs : List Given) (low count room : ℕ) : Type 0 where
+pub record Left (v : ℕ) (b : List ℕ) (used : ℕ) (gs : List Given) (low count room : ℕ) : Type 0 where
   pub left : List ℕ
   pub up : ℕ
   pub held : List Record
   pub series : Series b used gs (answered up) left
-  pub state : State left up held (lowAfter low gs) (count + length gs) (room - 80 * length gs)
+  pub state : State v left up held (lowAfter low gs) (count + length gs) (room - 80 * length gs)
 
-state-same : {b : List ℕ} {used : ℕ} {rs : List Record} {l n m i j : ℕ} → n ≡ i → m ≡ j → State b used rs l n m → State b used rs l i j
-state-same {b} {used} {rs} {l} {n} {m} {i} {j} e f s = subst (λ x. State b used rs l i x) f (subst (λ x. State b used rs l x m) e s)
+state-same : {v : ℕ} {b : List ℕ} {used : ℕ} {rs : List Record} {l n m i j : ℕ} → n ≡ i → m ≡ j → State v b used rs l n m → State v b used rs l i j
+state-same {v} {b} {used} {rs} {l} {n} {m} {i} {j} e f s = subst (λ x. State v b used rs l i x) f (subst (λ x. State v b used rs l x m) e s)
 
-pub state-left : {b : List ℕ} {used : ℕ} {rs : List Record} {low count room : ℕ} {gs : List Given}
-    → State b used rs low count room
+pub state-left : {v : ℕ} {b : List ℕ} {used : ℕ} {rs : List Record} {low count room : ℕ} {gs : List Given}
+    → State v b used rs low count room
     → IdsFit gs
     → Passes low count room gs
-    → Left b used gs low count room
-state-left {b} {used} {rs} s f empty =
+    → Left v b used gs low count room
+state-left {v} {b} {used} {rs} s f empty =
     record { left = b; up = used; held = rs; series = ended; state = state-same (omega arith) (omega arith) s }
 state-left s f (first {g = g} a p) =
     let n = state-left (state-next s g (f .0) a) (f .1) p in

@@ -1,5 +1,5 @@
 -- The numbers that are carried from one append to the next: the least id that may follow, the count, and the room behind the block.
---   State b used rs low count room == the first `used` bytes of b are the block of rs, and the numbers are theirs
+--   State v b used rs low count room == the first `used` bytes of b are the block of rs in the version v, and the numbers are theirs
 --   state-of, state-good : any block has its numbers
 --   refused-at, accepted-at : the order by the carried numbers is that of `append_record`
 --   added b used g == the buffer after an accepted append
@@ -17,7 +17,7 @@ use Rattle.endian.specs.Numbers.{Bytes, over}
 use Rattle.endian.proofs.Numbers.{bytes-take}
 use Rattle.record.specs.declared.Record.{Record}
 use Rattle.record.specs.Record.{recordBytes}
-use Rattle.block.specs.Block.{Holds, countOf, records-in}
+use Rattle.block.specs.Block.{Holds, versionOf, countOf, records-in}
 use Rattle.block.specs.Faults.{lowest}
 use Rattle.block.proofs.Blocks.{block-length, block-count, held-record, holds-accepted, accepted-holds}
 use Rattle.append.specs.declared.Appended.{Appended}
@@ -27,19 +27,19 @@ use Rattle.append.specs.Series.{Given, given, nextCodes}
 use Rattle.append.proofs.Orders.{given-refused, given-accepted, room-refused, append-accepted, append-sound}
 use Rattle.append.proofs.Runs.{last-record, more-length, appended-holds, appended-rest}
 
-pub record State (b : List ℕ) (used : ℕ) (rs : List Record) (low count room : ℕ) : Type 0 where
+pub record State (v : ℕ) (b : List ℕ) (used : ℕ) (rs : List Record) (low count room : ℕ) : Type 0 where
   pub within : used ≤ length b
-  pub held : Holds (take used b) rs
+  pub held : Holds v (take used b) rs
   pub low-is : low ≡ lowest (take used b) (countOf (take used b))
   pub count-is : count ≡ countOf (take used b)
   pub room-is : room ≡ length b - used
 
-pub state-of : {b : List ℕ} {used : ℕ} {rs : List Record} → used ≤ length b → Holds (take used b) rs
-    → State b used rs (lowest (take used b) (countOf (take used b))) (countOf (take used b)) (length b - used)
+pub state-of : {v : ℕ} {b : List ℕ} {used : ℕ} {rs : List Record} → used ≤ length b → Holds v (take used b) rs
+    → State v b used rs (lowest (take used b) (countOf (take used b))) (countOf (take used b)) (length b - used)
 state-of h q = record { within = h; held = q; low-is = refl; count-is = refl; room-is = refl }
 
 pub state-good : (b : List ℕ) (used : ℕ) → Bytes b → Accepted (bufferCodes b used)
-    → State b used (records-in (take used b)) (lowest (take used b) (countOf (take used b))) (countOf (take used b)) (length b - used)
+    → State (versionOf (take used b)) b used (records-in (take used b)) (lowest (take used b) (countOf (take used b))) (countOf (take used b)) (length b - used)
 state-good b used p ok = state-of (N.le-of-suc-le-suc (N.lt-of-not-le (ok .0))) (accepted-holds (take used b) (bytes-take used p) (ok .1))
 
 -- ---- one append; the answer without a fault, and the buffer
@@ -49,7 +49,7 @@ answered m = record { code = 0; number = 0; used = m }
 abbrev pub added : List ℕ → ℕ → Given → List ℕ
 added b used g = withCount (over b used (recordBytes (given g))) (suc (countOf (take used b)))
 
-module _ {b : List ℕ} {used : ℕ} {rs : List Record} {low count room : ℕ} (s : State b used rs low count room) (g : Given) where
+module _ {v : ℕ} {b : List ℕ} {used : ℕ} {rs : List Record} {low count room : ℕ} (s : State v b used rs low count room) (g : Given) where
   pub refused-at : (c : ℕ) → Refused (nextCodes low count room g) c
       → Refused (appendCodes b used (g .id) (g .kind) (g .limit) (g .coords)) (record { code = c; number = 0 })
   refused-at c r =
@@ -73,7 +73,7 @@ module _ {b : List ℕ} {used : ℕ} {rs : List Record} {low count room : ℕ} (
     abbrev all : List Record
     all = rs ++ (given g ∷ [])
 
-    holds : Holds (take (used + 80) new) all
+    holds : Holds v (take (used + 80) new) all
     holds = appended-holds (s .held) fits (appended a)
 
     enough : used + 80 ≤ length b
@@ -104,7 +104,7 @@ module _ {b : List ℕ} {used : ℕ} {rs : List Record} {low count room : ℕ} (
         ap (λ (r : Record). suc (r .id))
         (held-record holds (length rs) (omega (arith, more-length rs (given g))) ∙ last-record rs (given g))
 
-    pub state-next : State (added b used g) (used + 80) (rs ++ (given g ∷ [])) (suc (g .id)) (suc count) (room - 80)
+    pub state-next : State v (added b used g) (used + 80) (rs ++ (given g ∷ [])) (suc (g .id)) (suc count) (room - 80)
     state-next =
         record {
           within = rw same-length enough;

@@ -17,19 +17,19 @@ use Rattle.block.specs.Block.{header}
 abbrev pub opening : List ℕ
 opening = 67 ∷ 69 ∷ 76 ∷ 1 ∷ 0 ∷ []
 
-pub start-over : (b : List ℕ) → 9 ≤ length b → over (puts b 0 opening) 5 (bytes 4 0) ≡ header 0 ++ drop 9 b
+pub start-over : (b : List ℕ) → 9 ≤ length b → over (puts b 0 opening) 5 (bytes 4 0) ≡ header 1 0 ++ drop 9 b
 start-over b h =
     ap (λ (s : List ℕ). over s 5 (bytes 4 0)) (puts-over opening b 0 (omega arith))
     ∙ over-more opening (bytes 4 0) b 0 h
-    ∙ ap (λ (s : List ℕ). s ++ (header 0 ++ drop 9 b)) (none b)
+    ∙ ap (λ (s : List ℕ). s ++ (header 1 0 ++ drop 9 b)) (none b)
   where
     none : (l : List ℕ) → take 0 l ≡ []
     none [] = refl
     none (x ∷ l) = refl
 
--- kind, level limit and two zero bytes
+-- kind, level limit and the two bytes of the sign
 abbrev pub middle : Record → List ℕ
-middle r = r .kind ∷ r .limit ∷ 0 ∷ 0 ∷ []
+middle r = r .kind ∷ r .limit ∷ r .signed ∷ r .level ∷ []
 
 pub record-over : (s : List ℕ) (at : ℕ) (r : Record) → length (r .coords) ≡ 18 → at + 80 ≤ length s
     → over (puts (over s at (bytes 4 (r .id))) (at + 4) (middle r)) (at + 4 + 1 + 1 + 1 + 1) (numbersBytes (r .coords)) ≡ over s at (recordBytes r)

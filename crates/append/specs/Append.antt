@@ -25,8 +25,9 @@ use Rattle.block.specs.Faults.{Fault, naming, lowest, blockCodes}
 abbrev pub padded : List ℤ → List ℤ
 padded xs = xs ++ replicate (18 - length xs) (pos 0)
 
+-- 02, Ask 4: "Append writes unsigned records"
 abbrev pub newRecord : ℕ → ℕ → ℕ → List ℤ → Record
-newRecord id n level xs = record { id = id; kind = n; limit = level; coords = padded xs }
+newRecord id n level xs = record { id = id; kind = n; limit = level; signed = 0; level = 0; coords = padded xs }
 
 -- 10: "id not above the one before"; 11: "append to a block of 800"; 5: "buffer too short"
 abbrev pub followCodes : ℕ → ℕ → ℕ → ℕ → Codes ℕ

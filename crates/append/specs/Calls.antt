@@ -33,11 +33,12 @@ pub record NotStarted (b : List ℕ) (r : Started) (a : List ℕ) : Type 0 where
   pub zeros : r ≡ record { code = r .code; number = 0; used = 0 }
   pub untouched : a ≡ b
 
--- "start an empty block in a buffer (answers 9)"; "only .. the 9 header bytes of a new block .. change; the rest of the buffer stays"
+-- "start an empty block in a buffer (answers 9)"; "only .. the 9 header bytes of a new block .. change; the rest of the buffer stays";
+-- 02, Ask 4: "starting still gives" version 1
 pub record IsStarted (b : List ℕ) (r : Started) (a : List ℕ) : Type 0 where
   pub accepted : Accepted (startCodes b)
   pub answer : r ≡ record { code = 0; number = 0; used = 9 }
-  pub written : a ≡ header 0 ++ drop 9 b
+  pub written : a ≡ header 1 0 ++ drop 9 b
 
 abbrev pub Starts : List ℕ → Started → List ℕ → Type 0
 Starts b r a = NotStarted b r a ⊎ IsStarted b r a
@@ -63,7 +64,8 @@ pub record NotAppended (b : List ℕ) (used id n level : ℕ) (xs : List ℤ) (r
   pub no-used : r .used ≡ 0
   pub untouched : a ≡ b
 
--- "append a record to the block in the first `used` bytes (answers the new `used`)"; "only .. the appended record and the count change"
+-- "append a record to the block in the first `used` bytes (answers the new `used`)"; "only .. the appended record and the count change";
+-- so 02, Ask 4: "append keeps the block's version"
 pub record IsAppended (b : List ℕ) (used id n level : ℕ) (xs : List ℤ) (r : Appended) (a : List ℕ) : Type 0 where
   pub accepted : Accepted (appendCodes b used id n level xs)
   pub answer : r ≡ record { code = 0; number = 0; used = used + 80 }

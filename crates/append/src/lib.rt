@@ -98,8 +98,8 @@ pub fn put_record(s: &mut [u8], at: usize, r: Record)
     let e = d + 1;
     s[a] = r.kind;
     s[b] = r.limit;
-    s[c] = 0;
-    s[d] = 0;
+    s[c] = r.signed;
+    s[d] = r.level;
     let zs = r.coords;
     put_numbers(s, e, zs);
 }
@@ -208,6 +208,8 @@ pub fn append_record(
             id,
             kind,
             limit,
+            signed: 0,
+            level: 0,
             coords: zs,
         },
     );

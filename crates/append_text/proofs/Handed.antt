@@ -132,8 +132,8 @@ module _ (low count room : ℕ) (ws : List (List ℕ)) where
       let i : min 255 l ≡ l = omega (arith, g, N.le-of-suc-le-suc (N.lt-of-not-le (a .1 .0))) in
       let h : length us ≤ 18 = omega (arith, all-length us, length-is n (all us) (a .1 .1 .0), small k) in
       let c : few us ≡ all us = clips-same (limit-small (kindOf n)) (few-clips us h) (a .1 .1 .1 .0) in
-      ap₂ (λ (m o : ℕ). record { id = numberOf (first ws); kind = m; limit = o; coords = padded (few us) }) (e k) i
-      ∙ ap (λ (xs : List ℤ). record { id = numberOf (first ws); kind = n; limit = l; coords = padded xs }) c
+      ap₂ (λ (m o : ℕ). record { id = numberOf (first ws); kind = m; limit = o; signed = 0; level = 0; coords = padded (few us) }) (e k) i
+      ∙ ap (λ (xs : List ℤ). record { id = numberOf (first ws); kind = n; limit = l; signed = 0; level = 0; coords = padded xs }) c
 
 -- ---- field by field
 pub handed-is : (ws : List (List ℕ)) {i k o : ℕ} {xs : List ℤ}

@@ -118,10 +118,10 @@ module _ (t b : List ℕ) (used : ℕ) where
   text-keeps r a (inr (inr n)) z = absurd (z (ap (λ x. x .code) (n .answer)))
 
   module _ {r : Texted} {a : List ℕ} (n : IsTaken t b used r a) where
-    pub text-reads : {rs : List Record} → Holds (take used b) rs → Holds (take (r .used) a) (rs ++ records (givens (n .lines)))
+    pub text-reads : {v : ℕ} {rs : List Record} → Holds v (take used b) rs → Holds v (take (r .used) a) (rs ++ records (givens (n .lines)))
     text-reads h = series-reads (n .done) refl (records-fit (n .said)) h
 
-    pub text-behind : {rs : List Record} → Holds (take used b) rs → drop (r .used) a ≡ drop (r .used) b
+    pub text-behind : {v : ℕ} {rs : List Record} → Holds v (take used b) rs → drop (r .used) a ≡ drop (r .used) b
     text-behind h = series-behind (n .done) refl (records-fit (n .said)) h .1
 
     pub text-none : n .lines ≡ [] → a ≡ b

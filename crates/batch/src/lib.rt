@@ -117,6 +117,8 @@ pub fn take(s: Tally, id: u32, kind: u8, limit: u8, coords: &[i32], out: &mut [u
             id,
             kind,
             limit,
+            signed: 0,
+            level: 0,
             coords: zs,
         },
     );

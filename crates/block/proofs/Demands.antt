@@ -3,9 +3,10 @@
 --   checked-only    : and bytes that are accepted are a block
 --   count-beyond    : a count above 800 is code 8, however long the bytes are: a product that wraps is shut out
 --   fetched-record, fetched-none : record k of a block, and none where k is not below the count
+--   fetched-zero    : a fetch from a block of version 1 answers 0 and 0 for the two bytes
 --   fetched-rises   : two records differ: a fetch that gives record 0 each time is shut out
 -- Assumes nothing.
-use mathlib.Core.Path.{_≡_, refl, sym, ap}
+use mathlib.Core.Path.{_≡_, refl, sym, ap, _∙_}
 use mathlib.Core.List.{List}
 use mathlib.Core.Logic.{inl, inr}
 use Prim.Native.Nat.{ℕ, zero, suc, _≤_, _<_}
@@ -16,28 +17,29 @@ use lib.ListN.{length}
 use Rattle.endian.specs.Numbers.{Bytes}
 use Rattle.record.specs.declared.Record.{Record}
 use Rattle.record.specs.Record.{blank}
+use Rattle.record.proofs.Signs.{zero-signs}
 use Rattle.block.specs.declared.Checked.{Checked}
 use Rattle.block.specs.declared.Fetched.{Fetched}
-use Rattle.block.specs.Block.{record-of, Holds, countOf, records-in}
+use Rattle.block.specs.Block.{record-of, Holds, versionOf, countOf, records-in}
 use Rattle.block.specs.Faults.{NotBlock, OtherVersion}
 use Rattle.block.specs.Calls.{Checks, fetched, Fetches}
-use Rattle.block.proofs.Walk.{header-refused}
+use Rattle.block.proofs.Walk.{header-refused, form-refused}
 use Rattle.block.proofs.Answers.{checks-unique, checks-counted, fetch-beyond, fetch-accepted, fetches-unique}
 use Rattle.block.proofs.Blocks.{block-count, held-record, holds-accepted, accepted-holds}
 
-pub checked-only : (l : List ℕ) (r : Checked) → Bytes l → Checks l r → r .code ≡ 0 → Holds l (records-in l)
+pub checked-only : (l : List ℕ) (r : Checked) → Bytes l → Checks l r → r .code ≡ 0 → Holds (versionOf l) l (records-in l)
 checked-only l r p c e = accepted-holds l p (checks-counted l r c e .accepted)
 
 pub count-beyond : (l : List ℕ) (r : Checked) → ¬ NotBlock l
-    → ¬ OtherVersion l
+    → ¬ OtherVersion 1 2 l
     → 800 < countOf l
     → Checks l r
     → r ≡ record { code = 8; number = 0; count = 0 }
 count-beyond l r a b h c =
     checks-unique l r (record { code = 8; number = 0; count = 0 }) c
-    (inl (record { refused = header-refused l 8 (inr (a, inr (b, inl (inl h, refl)))); no-count = refl }))
+    (inl (record { refused = form-refused l (record { code = 8; number = 0 }) (header-refused l 8 (inr (a, inr (b, inl (inl h, refl))))); no-count = refl }))
 
-module _ {l : List ℕ} {rs : List Record} (h : Holds l rs) where
+module _ {v : ℕ} {l : List ℕ} {rs : List Record} (h : Holds v l rs) where
   pub checked-block : (r : Checked) → Checks l r → r ≡ record { code = 0; number = 0; count = length rs }
   checked-block r c =
       checks-unique l r (record { code = 0; number = 0; count = length rs }) c
@@ -66,3 +68,15 @@ module _ {l : List ℕ} {rs : List Record} (h : Holds l rs) where
 
   pub fetched-rises : (j k : ℕ) → j < k → k < length rs → (r s : Fetched) → Fetches l j r → Fetches l k s → r .id < s .id
   fetched-rises j k q i r s f g = rw (fetched-record j (N.lt-trans q i) r f, fetched-record k i s g) (rise-all j k q i)
+
+pub fetched-zero : {l : List ℕ} {rs : List Record} → Holds 1 l rs → (k : ℕ) (r : Fetched) → Fetches l k r → (r .signed ≡ 0) × (r .level ≡ 0)
+fetched-zero {rs = rs} h k r f = go (decLe (suc k) (length rs))
+  where
+    go : Dec (k < length rs) → (r .signed ≡ 0) × (r .level ≡ 0)
+    go (yes i) =
+        let e = fetched-record h k i r f in
+        let z = zero-signs (record-of rs k .signed) (record-of rs k .level) (h .formed k i .sign-known) in
+        (ap (λ (q : Fetched). q .signed) e ∙ z .0, ap (λ (q : Fetched). q .level) e ∙ z .1)
+    go (no i) =
+        let e = fetched-none h k (N.le-of-suc-le-suc (N.lt-of-not-le i)) r f in
+        (ap (λ (q : Fetched). q .signed) e, ap (λ (q : Fetched). q .level) e)

@@ -4,4 +4,5 @@ pub mod Walk
 pub mod Answers
 pub mod Blocks
 pub mod Demands
+pub mod Changes
 pub mod Long

@@ -4,11 +4,10 @@
 --   prefix-refused  : a fault of the first n bytes is a fault of the whole
 --   prefix-accepted : and where they have none, they are the whole
 -- Assumes nothing.
-use mathlib.Core.Path.{_≡_, refl, sym, ap, _∙_, subst}
-use mathlib.Core.List.{List, [], _∷_}
+use mathlib.Core.Path.{_≡_, sym, ap, _∙_, subst}
+use mathlib.Core.List.{List}
 use mathlib.Core.Logic.{_⊎_, inl, inr}
-use Prim.Native.Nat.{ℕ, _+_, _*_, _≤_, _<_}
-use native.Mathlib.Nat as N
+use Prim.Native.Nat.{ℕ, _≤_, _<_}
 use native.Mathlib.Omega.{arith}
 use native.Mathlib.Decide.{decLe}
 use lib.ListN.{length, take}
@@ -35,9 +34,10 @@ module _ (l m : List ℕ) (h : place 800 < length l) (k : place 800 < length m) 
   same-mark (inr f) =
       inr (λ g. f (sym (take-take 3 9 l (omega arith)) ∙ ap (take 3) e ∙ take-take 3 9 m (omega arith) ∙ g))
 
-  same-version : OtherVersion l → OtherVersion m
-  same-version f g =
-      f (ap number (sym (part-part 3 2 0 9 l (omega arith)) ∙ ap (part 3 2) e ∙ part-part 3 2 0 9 m (omega arith)) ∙ g)
+  same-version : OtherVersion 1 2 l → OtherVersion 1 2 m
+  same-version f =
+      subst (λ (v : ℕ). (v < 1) ⊎ (2 < v))
+      (ap number (sym (part-part 3 2 0 9 l (omega arith)) ∙ ap (part 3 2) e ∙ part-part 3 2 0 9 m (omega arith))) f
 
 pub long-refused : (l m : List ℕ) → place 800 < length l
     → place 800 < length m

@@ -2,3 +2,4 @@
 pub mod Block
 pub mod Faults
 pub mod Calls
+pub mod Changes

@@ -27,7 +27,7 @@ fn check_answer(bytes: &[u8], out: &mut [u8]) -> usize {
     write::put(out, end, 10)
 }
 
-// What `fetch_record` answered: the code, the record number, the id, the kind, the level limit and the nine pairs.
+// What `fetch_record` answered: the code, the record number, the id, the kind, the level limit, the two bytes of the sign and the nine pairs.
 fn fetched(out: &mut [u8], at: usize, told: Fetched) -> usize {
     let code = write::natural(out, at, told.code as u64);
     let head = naturals(
@@ -38,6 +38,8 @@ fn fetched(out: &mut [u8], at: usize, told: Fetched) -> usize {
             told.id as u64,
             told.kind as u64,
             told.limit as u64,
+            told.signed as u64,
+            told.level as u64,
         ],
     );
     let coords = told.coords;
@@ -51,7 +53,7 @@ fn fetch_answer(bytes: &[u8], k: u32, out: &mut [u8]) -> usize {
     write::put(out, end, 10)
 }
 
-// `fetch HEX k`: `code record id kind limit` and 18 numbers.
+// `fetch HEX k`: `code record id kind limit signed level` and 18 numbers.
 pub fn fetch_line(line: &[u8], at: usize, out: &mut [u8]) -> usize {
     let mut bytes = [0u8; 65536];
     let end = word_end(line, at);
@@ -91,6 +93,8 @@ fn found(out: &mut [u8], at: usize, r: Record) -> usize {
             id: r.id,
             kind: r.kind,
             limit: r.limit,
+            signed: r.signed,
+            level: r.level,
             coords,
         },
     )

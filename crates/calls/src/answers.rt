@@ -31,6 +31,12 @@ pub fn answer(line: &[u8], out: &mut [u8]) -> usize {
     if is_word(line, 0, end, b"text") {
         return text_lines::text_line(line, at, out);
     }
+    if is_word(line, 0, end, b"sign") {
+        return sign_lines::sign_line(line, at, out);
+    }
+    if is_word(line, 0, end, b"convert") {
+        return sign_lines::convert_line(line, at, out);
+    }
     if is_word(line, 0, end, b"list") {
         return list_lines::list_line(line, at, out);
     }

@@ -1,8 +1,8 @@
 -- The names of the verdicts, and the line of an answer of a call that judges (01: "id, kind, verdict, level, i, j, cells").
 --   name w               == the word of a verdict as text
 --   nameOf w             == the same of the answer's word
---   judgedLine id kind v == the line of a record with the verdict of the answer v
---   recordLine id kind v == the line of a record with the answer v: its verdict, or the code by which it is refused
+--   judgedLine id kind v s == the line of a record with the verdict of the answer v and the ending of the first byte s
+--   recordLine id kind v s == the line of a record with the answer v: its verdict, or the code by which it is refused
 -- Definitions only.
 use mathlib.Core.Bool.{cond}
 use mathlib.Core.List.{List, [], _∷_}
@@ -28,8 +28,8 @@ nameOf Valid = name valid
 nameOf Invalid = name invalid
 nameOf Undecided = name undecided
 
-abbrev pub judgedLine : ℕ → ℕ → Judged → List ℕ
-judgedLine id kind v = verdictLine id kind (nameOf (v .word)) (v .level) (v .i) (v .j) (v .cells)
+abbrev pub judgedLine : ℕ → ℕ → Judged → ℕ → List ℕ
+judgedLine id kind v s = verdictLine id kind (nameOf (v .word)) (v .level) (v .i) (v .j) (v .cells) s
 
-abbrev pub recordLine : ℕ → ℕ → Judged → List ℕ
-recordLine id kind v = cond (eqb (v .code) 0) (judgedLine id kind v) (refusedRecord id kind (v .code))
+abbrev pub recordLine : ℕ → ℕ → Judged → ℕ → List ℕ
+recordLine id kind v s = cond (eqb (v .code) 0) (judgedLine id kind v s) (refusedRecord id kind (v .code))

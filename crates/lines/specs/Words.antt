@@ -2,13 +2,16 @@
 --   Piece              == a word, or a number
 --   spelt p            == the text of a piece
 --   line ps            == the pieces, one space before each but the first, and the line's end
---   firstLine n        == "First line: mark, version, count"
---   verdictLine        == "Then id, kind, verdict, level, i, j, cells"
+--   firstLine v n      == "First line: mark, version, count"
+--   ending s           == what follows the numbers of a line: `signed` where a record is signed by the first byte s (02, Ask 4)
+--   verdictLine        == "Then id, kind, verdict, level, i, j, cells", and the ending
 --   refusedLine c k    == "A refused block prints only `refused`, code, record number, on one line"
 --   refusedRecord id kind c == the line of a record that a floor refuses: id, kind, `refused`, code
 -- Definitions only.
+use mathlib.Core.Bool.{cond}
 use mathlib.Core.List.{List, [], _∷_, _++_}
 use Prim.Native.Nat.{ℕ}
+use lib.Dec.{eqb}
 use Rattle.text.specs.Writing.{decimal}
 
 pub data Piece : Type 0 where
@@ -28,12 +31,19 @@ abbrev pub line : Piece → List Piece → List ℕ
 line p ps = spelt p ++ after ps
 
 -- ---- the four kinds of line; 67 69 76 are the letters CEL
-abbrev pub firstLine : ℕ → List ℕ
-firstLine n = line (word (67 ∷ 69 ∷ 76 ∷ [])) (number 1 ∷ number n ∷ [])
+abbrev pub firstLine : ℕ → ℕ → List ℕ
+firstLine v n = line (word (67 ∷ 69 ∷ 76 ∷ [])) (number v ∷ number n ∷ [])
 
-abbrev pub verdictLine : ℕ → ℕ → List ℕ → ℕ → ℕ → ℕ → ℕ → List ℕ
-verdictLine id kind verdict level i j cells =
-    line (number id) (number kind ∷ word verdict ∷ number level ∷ number i ∷ number j ∷ number cells ∷ [])
+-- the letters of `signed`
+abbrev pub signedWord : List ℕ
+signedWord = 115 ∷ 105 ∷ 103 ∷ 110 ∷ 101 ∷ 100 ∷ []
+
+abbrev pub ending : ℕ → List Piece
+ending s = cond (eqb s 0) [] (word signedWord ∷ [])
+
+abbrev pub verdictLine : ℕ → ℕ → List ℕ → ℕ → ℕ → ℕ → ℕ → ℕ → List ℕ
+verdictLine id kind verdict level i j cells s =
+    line (number id) (number kind ∷ word verdict ∷ number level ∷ number i ∷ number j ∷ number cells ∷ ending s)
 
 -- the letters of `refused`
 abbrev pub refusedWord : List ℕ

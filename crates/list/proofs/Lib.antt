@@ -1,3 +1,4 @@
--- The list, line by line, and that the call allows one outcome.
-pub mod Outcomes
+-- The list, line by line; that the calls allow one outcome; and that nothing signed reopens.
 pub mod Steps
+pub mod Outcomes
+pub mod Kept

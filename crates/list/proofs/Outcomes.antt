@@ -5,7 +5,7 @@
 --   write-unique      : so a call has one answer, and leaves one content of the buffer
 --   write-list-unique, write-floor-list-unique : that, of the two calls
 --   write-within      : the length that it answers lies in the buffer
---   write-text        : and in a buffer of 65,536 characters the list stands up to it
+--   write-text        : and in a buffer of 71,680 characters the list stands up to it
 --   lists-prefix, write-prefix : the list of the first n bytes of an input, n above the length of any block, is that of the input
 --   floor-codes       : a record of a block is refused by a floor with 1, 2, 16 or 17
 -- For every profile. Assumes nothing.
@@ -20,7 +20,7 @@ use Rattle.element.specs.Refusals.{Refused}
 use Rattle.element.proofs.Refusals.{refused-unique, refused-accepted}
 use Rattle.endian.specs.Numbers.{over}
 use Rattle.endian.proofs.Writes.{length-over}
-use Rattle.judge.specs.Elements.{subject}
+use Rattle.judge.specs.Verdict.{Answer}
 use Rattle.judge.proofs.Faithful.{element-faithful}
 use Rattle.judge.proofs.Unique.{judges-unique}
 use Rattle.floor.specs.Floor as floor
@@ -28,9 +28,11 @@ use Rattle.floor.specs.Calls.{floorCodes}
 use Rattle.floor.proofs.Values.{floor-faithful}
 use Rattle.record.specs.declared.Record.{Record}
 use Rattle.record.specs.Record.{used, WellFormed}
+use Rattle.signs.specs.Signs.{element, limitOf}
+use Rattle.signs.proofs.Verdicts.{formed-accepted}
 use Rattle.block.specs.Block.{place}
 use Rattle.block.specs.Faults.{Fault, blockCodes}
-use Rattle.block.proofs.Blocks.{holds-accepted, one-reading}
+use Rattle.block.proofs.Blocks.{holds-accepted, one-version, one-reading}
 use Rattle.block.proofs.Long.{prefix-refused, prefix-accepted}
 use Rattle.lines.specs.Words.{firstLine, refusedLine, refusedRecord}
 use Rattle.list.specs.declared.Listed.{Listed}
@@ -38,17 +40,18 @@ use Rattle.floor.specs.declared.Profile.{Profile}
 use Rattle.floor.specs.declared.Profile.the-variants.{Plain, Floor}
 use Rattle.list.specs.Listing.{Line, lineOf, FloorLine, judged, refused, LineBy, plain, floored, Lines, no-more, _then_, Lists, listed}
 use Rattle.list.specs.Calls.{WritesBy, WritesList, WritesFloorList}
-use Rattle.list.proofs.Steps.{formed-accepted, take-over}
+use Rattle.list.proofs.Steps.{take-over}
 
 line-unique : {r : Record} {t u : List ℕ} → Line r t → Line r u → t ≡ u
 line-unique {r} p q =
     p .text
-    ∙ ap (lineOf r) (judges-unique (subject (kindOf (r .kind)) (used r)) (element-faithful (kindOf (r .kind)) (used r)) (r .limit) (p .verdict) (q .verdict) (p .judged) (q .judged))
+    ∙ ap (λ (a : Answer). lineOf r a (r .signed))
+    (judges-unique (element r) (element-faithful (kindOf (r .kind)) (used r)) (limitOf r) (p .verdict) (q .verdict) (p .judged) (q .judged))
     ∙ sym (q .text)
 
 floor-line-unique : {p : ℕ} {r : Record} {t u : List ℕ} → FloorLine p r t → FloorLine p r u → t ≡ u
 floor-line-unique {p} {r} (judged a f j) (judged b g k) =
-    ap (lineOf r) (judges-unique (floor.floored p (used r)) (floor-faithful p (used r)) (r .limit) a b j k)
+    ap (λ (a : Answer). lineOf r a 0) (judges-unique (floor.floored p (used r)) (floor-faithful p (used r)) (r .limit) a b j k)
 floor-line-unique {p} {r} (judged a f j) (refused c k) = absurd (refused-accepted (floorCodes (r .kind) (r .limit) (used r) p) c k f)
 floor-line-unique {p} {r} (refused c k) (judged a f j) = absurd (refused-accepted (floorCodes (r .kind) (r .limit) (used r) p) c k f)
 floor-line-unique {p} {r} (refused c k) (refused d m) =
@@ -72,9 +75,10 @@ module _ (q : Profile) where
   lists-unique {l} (refused {f = f} a) (refused {f = g} b) = ap (λ (h : Fault). refusedLine (h .code) (h .number)) (refused-unique (blockCodes l) f g a b)
   lists-unique {l} (refused {f = f} a) (listed h ls) = absurd (refused-accepted (blockCodes l) f a (holds-accepted h))
   lists-unique {l} (listed h ls) (refused {f = f} a) = absurd (refused-accepted (blockCodes l) f a (holds-accepted h))
-  lists-unique (listed {rs = rs} {t = t} h ls) (listed {rs = ss} {t = u} g ms) =
+  lists-unique (listed {v = v} {rs = rs} {t = t} h ls) (listed {v = w} {rs = ss} {t = u} g ms) =
       let e = one-reading h g in
-      ap (λ (xs : List Record). firstLine (length xs) ++ t) e ∙ ap (λ (x : List ℕ). firstLine (length ss) ++ x) (lines-unique (lines-as e ls) ms)
+      ap₂ (λ (n : ℕ) (xs : List Record). firstLine n (length xs) ++ t) (one-version h g) e
+      ∙ ap (λ (x : List ℕ). firstLine w (length ss) ++ x) (lines-unique (lines-as e ls) ms)
 
   -- the answer, and what is left of the buffer
   pub write-unique : (l o : List ℕ) (o′ o″ : List ℕ) (r s : Listed) → WritesBy q l o o′ r → WritesBy q l o o″ s → (r ≡ s) × (o′ ≡ o″)
@@ -95,7 +99,7 @@ module _ (q : Profile) where
       omega arith
   write-within l o o′ r (inr a) = let e = ap (λ (x : Listed). x .length) (a .answer) in omega arith
 
-  pub write-text : {l o o′ : List ℕ} {r : Listed} → 65536 ≤ length o → WritesBy q l o o′ r → Lists q l (take (r .length) o′)
+  pub write-text : {l o o′ : List ℕ} {r : Listed} → 71680 ≤ length o → WritesBy q l o o′ r → Lists q l (take (r .length) o′)
   write-text {l} {o} {o′} {r} h (inl a) =
       subst (Lists q l) (sym (ap₂ (λ (n : ℕ) (s : List ℕ). take n s) (ap (λ (x : Listed). x .length) (a .answer)) (a .content) ∙ take-over o (a .text))) (a .lists)
   write-text h (inr a) = let k = a .room in let m = a .within in absurd (omega arith)
@@ -122,12 +126,12 @@ pub write-floor-list-unique : (p : ℕ) (l o : List ℕ) (o′ o″ : List ℕ) 
 write-floor-list-unique p = write-unique (Floor p)
 
 -- ---- a record that a floor refuses: its length and its coordinates have no fault
-pub floor-codes : (p c : ℕ) (r : Record) → WellFormed r
+pub floor-codes : {m : ℕ} (p c : ℕ) (r : Record) → WellFormed m r
     → Refused (floorCodes (r .kind) (r .limit) (used r) p) c
     → (c ≡ 1) ⊎ (c ≡ 2) ⊎ (c ≡ 16) ⊎ (c ≡ 17)
 floor-codes p c r w (inl (f, e)) = inl e
 floor-codes p c r w (inr (f, inl (g, e))) = inr (inl e)
-floor-codes p c r w (inr (f, inr (g, inl (h, e)))) = absurd (formed-accepted r w .1 .1 .0 h)
+floor-codes p c r w (inr (f, inr (g, inl (h, e)))) = absurd (formed-accepted r w (r .limit) (w .level-allowed) .1 .1 .0 h)
 floor-codes p c r w (inr (f, inr (g, inr (h, inl (o, e))))) = absurd (w .inside o)
 floor-codes p c r w (inr (f, inr (g, inr (h, inr (o, inl (n, e)))))) = inr (inr (inl e))
 floor-codes p c r w (inr (f, inr (g, inr (h, inr (o, inr (n, inl (s, e))))))) = inr (inr (inr e))

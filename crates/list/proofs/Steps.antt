@@ -1,6 +1,4 @@
 -- The list, line by line.
---   take-min        : the first n numbers, of as many as there are
---   formed-accepted : the element of a well-formed record is accepted
 --   line-by         : the line of the answer to a well-formed record is the record's line
 --   line-written    : so it is where the line was written
 --   lines-none, lines-more : no line; the line of one more record
@@ -12,25 +10,25 @@ use mathlib.Core.Path.{_≡_, refl, sym, _∙_, ap, subst}
 use mathlib.Core.Bool.{Bool, cond}
 use mathlib.Core.List.{List, [], _∷_, _++_}
 use mathlib.Core.Logic.{inl, inr}
-use Prim.Native.Nat.{ℕ, _+_, _*_, min, _≤_, _<_}
-use native.Mathlib.Nat as N
-use native.Mathlib.Decide.{decLe}
+use Prim.Native.Nat.{ℕ, _+_, _≤_, _<_}
 use native.Mathlib.Numerals.{add-one}
 use native.Mathlib.Omega.{arith}
 use borrow.Author.Tests.{ne-eqb}
 use lib.ListN.{length, take, drop, length-append}
 use lib.Seq.{take-suc, take-all, take-append-seam, length-take-le}
-use Rattle.element.specs.Kinds.{NotKind}
-use Rattle.element.specs.Refusals.{Accepted, verdictCodes}
-use Rattle.element.proofs.Refusals.{refused-accepted, refused-some}
+use Rattle.element.specs.Refusals.{verdictCodes}
+use Rattle.element.proofs.Refusals.{refused-some}
 use Rattle.judge.specs.Verdict.{Answer}
 use Rattle.judge.specs.Verdict as judge
 use Rattle.verdict.specs.declared.Judged.{Judged}
 use Rattle.verdict.specs.Calls.{VerdictOf, tell, given}
+use Rattle.verdict.proofs.Judging.{accepted-answered}
 use Rattle.floor.specs.Calls.{floorCodes, FloorOf, ToldBy}
 use Rattle.record.specs.declared.Record.{Record}
 use Rattle.record.specs.Record.{used, blank, WellFormed}
-use Rattle.block.specs.Block.{Holds, record-of, records-in}
+use Rattle.signs.specs.Signs.{element, limitOf}
+use Rattle.signs.proofs.Verdicts.{formed-limit}
+use Rattle.block.specs.Block.{Version, Holds, versionOf, record-of, records-in}
 use Rattle.block.specs.declared.Checked.{Checked}
 use Rattle.block.specs.Calls.{Checks}
 use Rattle.block.proofs.Answers.{checks-refused, checks-counted}
@@ -46,71 +44,55 @@ use Rattle.floor.specs.declared.Profile.{Profile}
 use Rattle.floor.specs.declared.Profile.the-variants.{Plain, Floor}
 use Rattle.list.specs.Listing.{Line, lineOf, FloorLine, judged, refused, LineBy, plain, floored, Lines, no-more, _then_, Lists, listed}
 use Rattle.list.specs.Calls.{WritesBy}
-use Rattle.list.specs.Steps.{LineWritten, LinesWritten, LinesTo, WholeList}
+use Rattle.list.specs.Steps.{signBy, limitBy, LineWritten, LinesWritten, LinesTo, WholeList}
 
 -- ---- one line
--- the numbers that a kind uses, of as many as there are
-pub take-min : {A : Type 0} (n m : ℕ) (l : List A) → length l ≡ m → take (min n m) l ≡ take n l
-take-min n m l e = go (decLe n m)
-  where
-    go : Dec (n ≤ m) → take (min n m) l ≡ take n l
-    go (yes h) = ap (λ (k : ℕ). take k l) (N.min-eq-left h)
-    go (no h) =
-        let f : min n m ≡ m = omega arith in
-        ap (λ (k : ℕ). take k l) f ∙ take-all m l (omega arith) ∙ sym (take-all n l (omega arith))
-
--- a kind that is known has at most nine nodes
-pub kind-few : (n : ℕ) → ¬ NotKind n → n ≤ 9
-kind-few n h = go (decLe n 9)
-  where
-    go : Dec (n ≤ 9) → n ≤ 9
-    go (yes k) = k
-    go (no k) = absurd (h (λ e. k (omega arith), λ e. k (omega arith), λ e. k (omega arith)))
-
-pub formed-accepted : (r : Record) → WellFormed r → Accepted (verdictCodes (r .kind) (r .limit) (used r))
-formed-accepted r w =
-    let k = kind-few (r .kind) (w .kind-known) in
-    let e = w .nine-pairs in
-    (w .kind-known, (w .level-allowed, ((λ f. f (length-take-le (2 * r .kind) (r .coords) (omega arith))), (w .inside, tt))))
-
 named : (w : judge.Word) → nameOf (tell w) ≡ name w
 named judge.valid = refl
 named judge.invalid = refl
 named judge.undecided = refl
 
 -- the line of an answer that is a verdict
-told-line : (r : Record) (v : Judged) (a : Answer) → v ≡ given a → recordLine (r .id) (r .kind) v ≡ lineOf r a
-told-line r v a e =
-    ap (recordLine (r .id) (r .kind)) e ∙ ap (λ (n : List ℕ). verdictLine (r .id) (r .kind) n (a .level) (a .i) (a .j) (a .cells)) (named (a .word))
+told-line : (r : Record) (v : Judged) (a : Answer) → (s : ℕ) → v ≡ given a → recordLine (r .id) (r .kind) v s ≡ lineOf r a s
+told-line r v a s e =
+    ap (λ (x : Judged). recordLine (r .id) (r .kind) x s) e
+    ∙ ap (λ (n : List ℕ). verdictLine (r .id) (r .kind) n (a .level) (a .i) (a .j) (a .cells) s) (named (a .word))
 
-line-judged : (r : Record) (v : Judged) → WellFormed r → VerdictOf (r .kind) (r .limit) (used r) v → Line r (recordLine (r .id) (r .kind) v)
-line-judged r v w (inl h) = absurd (refused-accepted (verdictCodes (r .kind) (r .limit) (used r)) (v .code) (h .refused) (formed-accepted r w))
-line-judged r v w (inr h) = record { verdict = h .answer; judged = h .judges; text = told-line r v (h .answer) (h .told) }
+line-judged : {m : ℕ} (r : Record) (v : Judged) → WellFormed m r → VerdictOf (r .kind) (limitOf r) (used r) v
+    → Line r (recordLine (r .id) (r .kind) v (r .signed))
+line-judged r v w t =
+    let h = accepted-answered (verdictCodes (r .kind) (limitOf r) (used r)) (element r) (limitOf r) v t (formed-limit r w) in
+    record { verdict = h .answer; judged = h .judges; text = told-line r v (h .answer) (r .signed) (h .told) }
 
-floor-judged : (p : ℕ) (r : Record) (v : Judged) → FloorOf (r .kind) (r .limit) (used r) p v → FloorLine p r (recordLine (r .id) (r .kind) v)
+floor-judged : (p : ℕ) (r : Record) (v : Judged) → FloorOf (r .kind) (r .limit) (used r) p v → FloorLine p r (recordLine (r .id) (r .kind) v 0)
 floor-judged p r v (inl h) =
     let codes = floorCodes (r .kind) (r .limit) (used r) p in
-    subst (FloorLine p r) (sym (ap (λ (b : Bool). cond b (judgedLine (r .id) (r .kind) v) (refusedRecord (r .id) (r .kind) (v .code))) (ne-eqb (v .code) 0 (refused-some codes (v .code) tt (h .refused)))))
+    subst (FloorLine p r) (sym (ap (λ (b : Bool). cond b (judgedLine (r .id) (r .kind) v 0) (refusedRecord (r .id) (r .kind) (v .code))) (ne-eqb (v .code) 0 (refused-some codes (v .code) tt (h .refused)))))
     (refused (v .code) (h .refused))
-floor-judged p r v (inr h) = subst (FloorLine p r) (sym (told-line r v (h .answer) (h .told))) (judged (h .answer) (h .accepted) (h .judges))
+floor-judged p r v (inr h) = subst (FloorLine p r) (sym (told-line r v (h .answer) 0 (h .told))) (judged (h .answer) (h .accepted) (h .judges))
 
-pub line-by : (q : Profile) (r : Record) (v : Judged) → WellFormed r → ToldBy q (r .kind) (r .limit) (used r) v → LineBy q r (recordLine (r .id) (r .kind) v)
+pub line-by : {m : ℕ} (q : Profile) (r : Record) (v : Judged) → WellFormed m r → ToldBy q (r .kind) (limitBy q r) (used r) v
+    → LineBy q r (recordLine (r .id) (r .kind) v (signBy q (r .signed)))
 line-by Plain r v w t = plain (line-judged r v w t)
 line-by (Floor p) r v w t = floored (floor-judged p r v t)
 
-pub line-written : (q : Profile) (r s : Record) (v : Judged) → r ≡ s
-    → WellFormed s
-    → ToldBy q (r .kind) (r .limit) (used r) v
-    → length (recordLine (r .id) (r .kind) v) ≤ 77
+-- the text of a record's line
+abbrev shown : Profile → Judged → Record → List ℕ
+shown q v r = recordLine (r .id) (r .kind) v (signBy q (r .signed))
+
+pub line-written : {m : ℕ} (q : Profile) (r s : Record) (v : Judged) → r ≡ s
+    → WellFormed m s
+    → ToldBy q (r .kind) (limitBy q r) (used r) v
+    → length (recordLine (r .id) (r .kind) v (signBy q (r .signed))) ≤ 88
     → {o o′ : List ℕ} {at p : ℕ}
-    → Wrote o at (recordLine (r .id) (r .kind) v) o′ p
+    → Wrote o at (recordLine (r .id) (r .kind) v (signBy q (r .signed))) o′ p
     → LineWritten q s o at o′ p
 line-written q r s v e f j n {o} {o′} {at} {p} w =
     record {
-      text = recordLine (s .id) (s .kind) v;
-      line = line-by q s v f (subst (λ (x : Record). ToldBy q (x .kind) (x .limit) (used x) v) e j);
-      short = subst (λ (x : Record). length (recordLine (x .id) (x .kind) v) ≤ 77) e n;
-      wrote = subst (λ (x : Record). Wrote o at (recordLine (x .id) (x .kind) v) o′ p) e w;
+      text = shown q v s;
+      line = line-by q s v f (subst (λ (x : Record). ToldBy q (x .kind) (limitBy q x) (used x) v) e j);
+      short = subst (λ (x : Record). length (shown q v x) ≤ 88) e n;
+      wrote = subst (λ (x : Record). Wrote o at (shown q v x) o′ p) e w;
     }
 
 -- ---- line by line
@@ -159,12 +141,15 @@ module _ (q : Profile) {l : List ℕ} (r : Checked) (c : Checks l r) {o o′ : L
       let s = refused-line-short (r .code) (r .number) m n in
       record { text = refusedLine (r .code) (r .number); lists = refused (checks-refused l r c h); short = omega arith; wrote = w }
 
-  pub whole-listed : r .code ≡ 0 → Bytes l → Wrote o 0 (firstLine (r .count)) o′ p → {o″ : List ℕ} {z : ℕ} → LinesTo q l (r .count) o′ p o″ z → WholeList q l o o″ z
+  pub whole-listed : r .code ≡ 0 → Bytes l → Wrote o 0 (firstLine (versionOf l) (r .count)) o′ p
+      → {o″ : List ℕ} {z : ℕ}
+      → LinesTo q l (r .count) o′ p o″ z
+      → WholeList q l o o″ z
   whole-listed e b f {o″} {z} lines =
       record {
-        text = firstLine n ++ w .text;
-        lists = subst (λ (m : ℕ). Lists q l (firstLine m ++ w .text)) (sym count) (listed h (subst (λ (xs : List Record). Lines q xs (w .text)) all (w .lines)));
-        short = let few = h .few in let a = first-line-short n (omega (arith, count)) in let s = w .short in let k = length-append (firstLine n) (w .text) in
+        text = firstLine (versionOf l) n ++ w .text;
+        lists = subst (λ (m : ℕ). Lists q l (firstLine (versionOf l) m ++ w .text)) (sym count) (listed h (subst (λ (xs : List Record). Lines q xs (w .text)) all (w .lines)));
+        short = let few = h .few in let a = first-line-short (versionOf l) n (small (h .version)) (omega (arith, count)) in let s = w .short in let k = length-append (firstLine (versionOf l) n) (w .text) in
             let i = ap (λ (xs : List Record). length xs) all in omega (arith, count);
         wrote = wrote-more f (w .wrote);
       }
@@ -175,23 +160,27 @@ module _ (q : Profile) {l : List ℕ} (r : Checked) (c : Checks l r) {o o′ : L
       rs : List Record
       rs = records-in l
 
-      h : Holds l rs
+      h : Holds (versionOf l) l rs
       h = checked-only l r b c e
 
       count : n ≡ length rs
       count = ap (λ (x : Checked). x .count) (checks-counted l r c e .answer) ∙ block-count h
 
+      small : {v : ℕ} → Version v → v < 4294967296
+      small (inl e) = omega arith
+      small (inr e) = omega arith
+
       all : take n rs ≡ rs
       all = take-all n rs (omega (arith, count))
 
       w : LinesWritten q (take n rs) o′ p o″ z
-      w = lines rs h (omega (arith, count))
+      w = lines (versionOf l) rs h (omega (arith, count))
 
 -- ---- the whole, copied
 pub take-over : (o t : List ℕ) → take (length t) (over o 0 t) ≡ t
 take-over o t = ap (λ (a : List ℕ). take (length t) (a ++ (t ++ drop (0 + length t) o))) (take-none o) ∙ take-append-seam t (drop (0 + length t) o)
 
-module _ (q : Profile) {l s s′ : List ℕ} {n : ℕ} (h : length s ≡ 65536) (w : WholeList q l s s′ n) where
+module _ (q : Profile) {l s s′ : List ℕ} {n : ℕ} (h : length s ≡ 71680) (w : WholeList q l s s′ n) where
   list-length : n ≡ length (w .text)
   list-length = let k = w .short in let e = w .wrote .place (omega arith) in omega arith
 

@@ -23,11 +23,11 @@ pub record Fits (q : Profile) (l o o′ : List ℕ) (r : Listed) : Type 0 where
   pub answer : r ≡ record { code = 0; number = 0; length = length text }
   pub content : o′ ≡ over o 0 text
 
--- 5: "buffer too short"; the buffer stays. No list is longer than 65,536 characters
+-- 5: "buffer too short"; the buffer stays. No list is longer than 71,680 characters
 pub record Short (q : Profile) (l o o′ : List ℕ) (r : Listed) : Type 0 where
   pub text : List ℕ
   pub lists : Lists q l text
-  pub within : length text ≤ 65536
+  pub within : length text ≤ 71680
   pub room : length o < length text
   pub answer : r ≡ record { code = 5; number = 0; length = 0 }
   pub content : o′ ≡ o

@@ -1,21 +1,23 @@
 // The list of a block's verdicts as text: the calls `write_list`, and `write_floor_list` under a floor on distortion.
 use block::check_block;
 use block::record_at;
+use endian::get_u16;
 use floor::Profile;
 use floor::verdict_by;
 use lines::first_line;
 use lines::record_line;
 use lines::refused_line;
+use signs::limit_of;
+use signs::used_numbers;
 use text::write;
 use verdict::Judged;
 use verdict::Word;
 ghost use mathlib.Core.Path.{_≡_};
-ghost use Prim.Native.Nat.{_*_, min};
+ghost use Prim.Native.Nat.{_*_};
 ghost use lib.ListN.{length, take};
-ghost use Rattle.verdict.specs.Calls.{VerdictOf};
 ghost use Rattle.floor.specs.Calls.{ToldBy};
 ghost use Rattle.list.specs.Calls.{WritesBy, WritesList, WritesFloorList};
-ghost use Rattle.list.specs.Steps.{LineAt, LinesTo, WholeList};
+ghost use Rattle.list.specs.Steps.{signBy, LineAt, LinesTo, WholeList};
 
 // The code, the record number, and the length of the list.
 pub struct Listed {
@@ -24,17 +26,17 @@ pub struct Listed {
     pub length: usize,
 }
 
-// How many of a record's 18 numbers are coordinates of its nodes.
-fn used_numbers(kind: u8) -> usize
-    ensures { λ r. ⌜ r ≡ min (2 * kind) 18 ⌝ }
+// The first byte of a sign that is shown by a profile.
+fn sign_by(by: Profile, signed: u8) -> u8
+    ensures { λ r. ⌜ r ≡ signBy by signed ⌝ }
 {
-    if 9 < kind {
-        return 18;
+    match by {
+        Profile::Plain => signed,
+        Profile::Floor(_) => 0,
     }
-    2 * (kind as usize)
 }
 
-// The answer to a record's element under its own limit, from the record's 18 numbers.
+// The answer to a record's element under a limit, from the record's 18 numbers.
 fn judge_by(by: Profile, kind: u8, limit: u8, coords: &[i32]) -> Judged
     requires { ⌜ length (now coords) ≡ 18 ⌝ }
     ensures { λ v. ⌜ ToldBy by kind limit (take (2 * kind) (now (coords .entry))) v ⌝ }
@@ -43,21 +45,15 @@ fn judge_by(by: Profile, kind: u8, limit: u8, coords: &[i32]) -> Judged
     verdict_by(by, kind, limit, &coords[..n])
 }
 
-// The plain verdict of it.
-pub fn judge(kind: u8, limit: u8, coords: &[i32]) -> Judged
-    requires { ⌜ length (now coords) ≡ 18 ⌝ }
-    ensures { λ v. ⌜ VerdictOf kind limit (take (2 * kind) (now (coords .entry))) v ⌝ }
-{
-    judge_by(Profile::Plain, kind, limit, coords)
-}
-
 // The line of record k of a block.
 fn line_at(out: &mut [u8], at: usize, bytes: &[u8], k: u32, by: Profile) -> usize
     ensures { λ r. ⌜ LineAt by (now (bytes .entry)) k (now (out .entry)) at (now (out .exit)) r ⌝ }
 {
     let r = record_at(bytes, k);
-    let v = judge_by(by, r.kind, r.limit, &r.coords);
-    record_line(out, at, r.id, r.kind, v)
+    let signed = sign_by(by, r.signed);
+    let limit = limit_of(r.limit, signed, r.level);
+    let v = judge_by(by, r.kind, limit, &r.coords);
+    record_line(out, at, r.id, r.kind, v, signed)
 }
 
 // The lines of a block's records.
@@ -81,7 +77,8 @@ fn whole_list(bytes: &[u8], out: &mut [u8], by: Profile) -> usize
     if c.code != 0 {
         return refused_line(out, 0, c.code as u64, c.number as u64);
     }
-    let at = first_line(out, 0, c.count as u64);
+    let version = get_u16(bytes, 3);
+    let at = first_line(out, 0, version as u64, c.count as u64);
     lines_to(out, at, bytes, c.count, by)
 }
 
@@ -89,7 +86,7 @@ fn whole_list(bytes: &[u8], out: &mut [u8], by: Profile) -> usize
 pub fn write_by(bytes: &[u8], out: &mut [u8], by: Profile) -> Listed
     ensures { λ r. ⌜ WritesBy by (now (bytes .entry)) (now (out .entry)) (now (out .exit)) r ⌝ }
 {
-    let mut space = [0u8; 65536];
+    let mut space = [0u8; 71680];
     let n = whole_list(bytes, &mut space, by);
     if out.len() < n {
         return Listed {

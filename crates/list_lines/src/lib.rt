@@ -30,7 +30,7 @@ fn joined(list: &[u8], n: usize, out: &mut [u8]) -> usize {
 
 // Calls `write_list`, and writes the list. A block's list is never longer than the room here.
 fn list_answer(bytes: &[u8], out: &mut [u8]) -> usize {
-    let mut list = [0u8; 65536];
+    let mut list = [0u8; 71680];
     let told = write_list(bytes, &mut list);
     joined(&list, told.length, out)
 }

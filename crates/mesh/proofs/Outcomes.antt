@@ -83,10 +83,10 @@ module _ (t : List ℕ) (level : ℕ) (b : List ℕ) (used : ℕ) where
     pub mesh-counts : r .appended + r .passed ≡ length (n .said .elements)
     mesh-counts = ap₂ (λ (i j : ℕ). i + j) (ap (λ x. x .appended) (n .answer)) (ap (λ x. x .passed) (n .answer)) ∙ takings-count (n .said .takings)
 
-    pub mesh-reads : {rs : List Record} → Holds (take used b) rs → Holds (take (r .used) a) (rs ++ records (n .given))
+    pub mesh-reads : {v : ℕ} {rs : List Record} → Holds v (take used b) rs → Holds v (take (r .used) a) (rs ++ records (n .given))
     mesh-reads h = series-reads (n .done) refl (takings-fit (n .said .takings) (numbers-small (n .said .mesh .form))) h
 
-    pub mesh-behind : {rs : List Record} → Holds (take used b) rs → drop (r .used) a ≡ drop (r .used) b
+    pub mesh-behind : {v : ℕ} {rs : List Record} → Holds v (take used b) rs → drop (r .used) a ≡ drop (r .used) b
     mesh-behind h = series-behind (n .done) refl (takings-fit (n .said .takings) (numbers-small (n .said .mesh .form))) h .1
 
     pub mesh-none : n .given ≡ [] → a ≡ b

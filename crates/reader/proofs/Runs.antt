@@ -115,7 +115,7 @@ module _ (s : RefT (List ℕ)) (o : Opened) (p : OpensReader s o) where
       step-gives (now s) a k (r .place) (q .next) (q .reader .place) (run-stands a e k r ran) (step-of s r q (run-slice s o p k r ran) t) f g
 
   -- ---- over the block of the records rs
-  module _ {rs : List Record} (h : Holds (now s) rs) (k : ℕ) (r : Reader) (ran : Ran o k r) (q : Stepped) (t : StepsReader r q) where
+  module _ {v : ℕ} {rs : List Record} (h : Holds v (now s) rs) (k : ℕ) (r : Reader) (ran : Ran o k r) (q : Stepped) (t : StepsReader r q) where
     stood : Stands (countOf (now s)) k (r .place)
     stood = run-stands (holds-accepted h) (ap (λ (c : Checked). c .code) (checked-block h (o .checked) (opens-checks (now s) (o .checked) (o .reader .place) (p .0)))) k r ran
 

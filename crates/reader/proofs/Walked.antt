@@ -90,7 +90,7 @@ module _ (l : List ℕ) where
   refused-ends c at p = step-over l at (omega (arith, p .behind))
 
 -- ---- over a block
-module _ {l : List ℕ} {rs : List Record} (h : Holds l rs) where
+module _ {v : ℕ} {l : List ℕ} {rs : List Record} (h : Holds v l rs) where
   found : Record → ℕ → Found
   found r n = record { next = record { over = false; found = r }; at = n }
 

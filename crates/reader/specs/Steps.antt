@@ -18,6 +18,7 @@ use lib.ListN.{length}
 use Rattle.record.specs.Record.{readRecord, blank}
 use Rattle.block.specs.declared.Checked.{Checked}
 use Rattle.block.specs.Block.{place}
+use Rattle.block.specs.Faults.{blockCodes}
 use Rattle.block.specs.Calls.{NoCount, Counted}
 use Rattle.reader.specs.declared.Found.{Found}
 use Rattle.reader.specs.declared.Next.{Next}
@@ -37,11 +38,11 @@ pub record Steps (l : List ℕ) (at : ℕ) (next : Next) (after : ℕ) : Type 0 
 
 -- the reader of a refused block stands behind all bytes, so that its step is the end
 pub record NoWalk (l : List ℕ) (c : Checked) (at : ℕ) : Type 0 where
-  pub refused : NoCount l c
+  pub refused : NoCount (blockCodes l) c
   pub behind : at ≡ length l
 
 pub record Begins (l : List ℕ) (c : Checked) (at : ℕ) : Type 0 where
-  pub counted : Counted l c
+  pub counted : Counted (blockCodes l) l c
   pub first : at ≡ place 0
 
 abbrev pub Opens : List ℕ → Checked → ℕ → Type 0

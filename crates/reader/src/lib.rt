@@ -54,6 +54,8 @@ fn over(at: usize) -> Found
         id: 0,
         kind: 0,
         limit: 0,
+        signed: 0,
+        level: 0,
         coords: [0i32; 18],
     };
     let next = Next { over: true, found };
@@ -151,6 +153,8 @@ pub fn read_by_steps(bytes: &[u8], k: u32) -> Fetched
         id: r.id,
         kind: r.kind,
         limit: r.limit,
+        signed: r.signed,
+        level: r.level,
         coords,
     }
 }

@@ -3,14 +3,14 @@
 --   numbers-length, numbers-more, numbers-at, numbers-read : signed numbers in four bytes each
 --   record-length  : a well-formed record is written in 80 bytes
 --   read-written   : and is read back from them, whatever stands before and behind
---   written-read   : bytes whose two bytes are zero are the writing of the record that is read from them
---   stored-zero    : where code 9 is not given, the two bytes are zero
+--   written-read   : and bytes are the writing of the record that is read from them
 --   stored-formed  : a stored record without a fault is well-formed
---   formed-stored  : a well-formed record that is read, its two bytes zero, has no fault
+--   formed-stored  : a well-formed record that is read has no fault
+-- The writing is the same in every version; which records are well-formed is not.
 -- Assumes nothing.
 use mathlib.Core.Path.{_≡_, refl, sym, ap, ap₂, _∙_, subst}
 use mathlib.Core.List.{List, [], _∷_, _++_, append-assoc, append-nil}
-use mathlib.Core.Logic.{inl, inr}
+use mathlib.Core.Logic.{inl, inr, ⊎-elim}
 use Prim.Native.Nat.{ℕ, zero, suc, _+_, _-_, _*_, _^_, _≤_, _<_}
 use native.Mathlib.Nat as N
 use native.Mathlib.Numerals.{add-one}
@@ -24,7 +24,7 @@ use lib.Signed.{mag}
 use Rattle.algebra.specs.Fill.{listTo}
 use Rattle.algebra.proofs.Fill.{length-listTo, getD-listTo}
 use Rattle.element.specs.Kinds.{Kind, six, eight, nine, kindOf, coordinateLimit}
-use Rattle.element.specs.Refusals.{Accepted}
+use Rattle.element.specs.Refusals.{Accepted, Beyond}
 use Rattle.faults.proofs.Limits.{inside-each}
 use Rattle.endian.specs.Numbers.{Bytes, bytes, number, signedBytes, signedNumber, part}
 use Rattle.endian.proofs.Numbers.{number-bytes, bytes-number, number-small}
@@ -32,8 +32,8 @@ use Rattle.endian.proofs.Complement.{signed-bytes, bytes-signed}
 use Rattle.endian.proofs.Places.{length-part, bytes-part}
 use Rattle.record.specs.declared.Record.{Record}
 use Rattle.record.specs.Record.{used, unused, WellFormed, numbersBytes, recordBytes, readCoords, readRecord}
-use Rattle.record.specs.Faults.{NotZero, recordCodes}
-use Rattle.record.proofs.Known.{not-not, each-zero}
+use Rattle.record.specs.Faults.{recordCodes}
+use Rattle.record.proofs.Known.{each-zero}
 
 -- ---- parts
 pub part-drop : (a at n : ℕ) (l : List ℕ) → part (a + at) n l ≡ part at n (drop a l)
@@ -91,7 +91,7 @@ mag-≤ : (z : ℤ) → mag z ≤ natAbs z
 mag-≤ (pos n) = N.le-refl n
 mag-≤ (negsuc n) = omega arith
 
-coord-small : (r : Record) → WellFormed r → (k : ℕ) → mag (getD (r .coords) k (pos 0)) < 128 * 256 ^ 3
+coord-small : {v : ℕ} (r : Record) → WellFormed v r → (k : ℕ) → mag (getD (r .coords) k (pos 0)) < 128 * 256 ^ 3
 coord-small r w k = N.lt-of-le-of-lt (mag-≤ (getD (r .coords) k (pos 0))) (go (decLe (suc k) (2 * r .kind)))
   where
     go : Dec (k < 2 * r .kind) → natAbs (getD (r .coords) k (pos 0)) < 128 * 256 ^ 3
@@ -105,12 +105,12 @@ coord-small r w k = N.lt-of-le-of-lt (mag-≤ (getD (r .coords) k (pos 0))) (go 
         ∙ sym (getD-drop n (r .coords) (k - n) (pos 0)) ∙ w .rest-zero (k - n) in
         rw e (lit< tt)
 
-pub record-length : (r : Record) → WellFormed r → length (recordBytes r) ≡ 80
+pub record-length : {v : ℕ} (r : Record) → WellFormed v r → length (recordBytes r) ≡ 80
 record-length r w = omega (arith, numbers-length (r .coords), w .nine-pairs)
 
 -- ---- what is written is read
-abbrev made : ℕ → ℕ → ℕ → List ℤ → Record
-made i k m zs = record { id = i; kind = k; limit = m; coords = zs }
+abbrev made : ℕ → ℕ → ℕ → ℕ → ℕ → List ℤ → Record
+made i k m s d zs = record { id = i; kind = k; limit = m; signed = s; level = d; coords = zs }
 
 listTo-same : (n : ℕ) (f g : ℕ → ℤ) → ((k : ℕ) → f k ≡ g k) → listTo n f ≡ listTo n g
 listTo-same zero f g h = refl
@@ -119,14 +119,17 @@ listTo-same (suc n) f g h = ap₂ (λ (l : List ℤ) (z : ℤ). l ++ (z ∷ []))
 -- from a place on is from the front of what begins there
 read-drop : (l : List ℕ) (at : ℕ) → readRecord l at ≡ readRecord (drop at l) 0
 read-drop l at =
-    ap₂ (λ (i : ℕ) (zs : List ℤ). made i (getD l (at + 4) 0) (getD l (at + 5) 0) zs)
+    ap₂ (λ (i : ℕ) (zs : List ℤ). made i (getD l (at + 4) 0) (getD l (at + 5) 0) (getD l (at + 6) 0) (getD l (at + 7) 0) zs)
     (ap number (ap (λ (i : ℕ). part i 4 l) (let e : at ≡ at + 0 = omega arith in e) ∙ part-drop at 0 4 l))
     (listTo-same 18 _ _ (λ k. ap signedNumber (ap (λ (i : ℕ). part i 4 l) (let e : at + 8 + 4 * k ≡ at + (0 + 8 + 4 * k) = omega arith in e)
     ∙ part-drop at (0 + 8 + 4 * k) 4 l)))
-    ∙ ap₂ (λ (k m : ℕ). made (number (part 0 4 (drop at l))) k m (readCoords (drop at l) 0)) (sym (getD-drop at l 4 0)) (sym (getD-drop at l 5 0))
+    ∙ ap₂ (λ (k m : ℕ). made (number (part 0 4 (drop at l))) k m (getD l (at + 6) 0) (getD l (at + 7) 0) (readCoords (drop at l) 0))
+    (sym (getD-drop at l 4 0)) (sym (getD-drop at l 5 0))
+    ∙ ap₂ (λ (s d : ℕ). made (number (part 0 4 (drop at l))) (getD (drop at l) 4 0) (getD (drop at l) 5 0) s d (readCoords (drop at l) 0))
+    (sym (getD-drop at l 6 0)) (sym (getD-drop at l 7 0))
 
-read-front : (r : Record) (rest : List ℕ) → WellFormed r → readRecord (recordBytes r ++ rest) 0 ≡ r
-read-front r rest w = ap₂ (λ (i : ℕ) (zs : List ℤ). made i (r .kind) (r .limit) zs) (number-bytes 4 (r .id) (w .id-fits)) coords
+read-front : {v : ℕ} (r : Record) (rest : List ℕ) → WellFormed v r → readRecord (recordBytes r ++ rest) 0 ≡ r
+read-front r rest w = ap₂ (λ (i : ℕ) (zs : List ℤ). made i (r .kind) (r .limit) (r .signed) (r .level) zs) (number-bytes 4 (r .id) (w .id-fits)) coords
   where
     l : List ℕ
     l = recordBytes r ++ rest
@@ -144,7 +147,7 @@ read-front r rest w = ap₂ (λ (i : ℕ) (zs : List ℤ). made i (r .kind) (r .
         let n = length-listTo 18 f in
         ext-getD (pos 0) (listTo 18 f) (r .coords) (n ∙ sym (w .nine-pairs)) (λ k h. getD-listTo 18 f k (rw n at h) ∙ here k (rw n at h))
 
-pub read-written : (before : List ℕ) (r : Record) (rest : List ℕ) (at : ℕ) → WellFormed r → length before ≡ at
+pub read-written : {v : ℕ} (before : List ℕ) (r : Record) (rest : List ℕ) (at : ℕ) → WellFormed v r → length before ≡ at
     → readRecord (before ++ (recordBytes r ++ rest)) at ≡ r
 read-written before r rest at w e =
     read-drop (before ++ (recordBytes r ++ rest)) at
@@ -152,10 +155,10 @@ read-written before r rest at w e =
     ∙ read-front r rest w
 
 -- ---- what is read is what was written
-pub written-read : (l : List ℕ) (at : ℕ) → Bytes l → at + 80 ≤ length l → getD l (at + 6) 0 ≡ 0 → getD l (at + 7) 0 ≡ 0
-    → recordBytes (readRecord l at) ≡ part at 80 l
-written-read l at p h a b =
-    ap₂ (λ (s t : List ℕ). s ++ (getD l (at + 4) 0 ∷ getD l (at + 5) 0 ∷ 0 ∷ 0 ∷ t)) four (numbers-read 18 (at + 8) l p (omega arith))
+pub written-read : (l : List ℕ) (at : ℕ) → Bytes l → at + 80 ≤ length l → recordBytes (readRecord l at) ≡ part at 80 l
+written-read l at p h =
+    ap₂ (λ (s t : List ℕ). s ++ (getD l (at + 4) 0 ∷ getD l (at + 5) 0 ∷ getD l (at + 6) 0 ∷ getD l (at + 7) 0 ∷ t)) four
+    (numbers-read 18 (at + 8) l p (omega arith))
     ∙ ap (λ (s : List ℕ). part at 4 l ++ s) (sym eight)
     ∙ sym (part-more at 4 76 l)
   where
@@ -167,36 +170,34 @@ written-read l at p h a b =
     one : (i j n : ℕ) → i + 1 ≡ j → i < length l → part i (suc n) l ≡ getD l i 0 ∷ part j n l
     one i j n e h = part-first i n l h ∙ ap (λ (k : ℕ). getD l i 0 ∷ part k n l) e
 
-    eight : part (at + 4) 76 l ≡ getD l (at + 4) 0 ∷ getD l (at + 5) 0 ∷ 0 ∷ 0 ∷ part (at + 8) 72 l
+    eight : part (at + 4) 76 l ≡ getD l (at + 4) 0 ∷ getD l (at + 5) 0 ∷ getD l (at + 6) 0 ∷ getD l (at + 7) 0 ∷ part (at + 8) 72 l
     eight =
         one (at + 4) (at + 5) 75 (omega arith) (omega arith)
         ∙ ap (λ (s : List ℕ). getD l (at + 4) 0 ∷ s) (one (at + 5) (at + 6) 74 (omega arith) (omega arith)
         ∙ ap (λ (s : List ℕ). getD l (at + 5) 0 ∷ s) (one (at + 6) (at + 7) 73 (omega arith) (omega arith)
-        ∙ ap₂ (λ (x : ℕ) (s : List ℕ). x ∷ s) a (one (at + 7) (at + 8) 72 (omega arith) (omega arith) ∙ ap (λ (x : ℕ). x ∷ part (at + 8) 72 l) b)))
+        ∙ ap (λ (s : List ℕ). getD l (at + 6) 0 ∷ s) (one (at + 7) (at + 8) 72 (omega arith) (omega arith))))
 
 -- ---- no fault
-pub stored-zero : (l : List ℕ) (at : ℕ) → ¬ NotZero l at → (getD l (at + 6) 0 ≡ 0) × (getD l (at + 7) 0 ≡ 0)
-stored-zero l at f = (not-not (getD l (at + 6) 0) 0 (λ e. f (inl e)), not-not (getD l (at + 7) 0) 0 (λ e. f (inr (inl e))))
+module _ (v : ℕ) (l : List ℕ) (at low : ℕ) where
+  pub stored-formed : Bytes l → at + 80 ≤ length l → Accepted (recordCodes v l at low) → WellFormed v (readRecord l at)
+  stored-formed p h a =
+      record {
+        id-fits = subst (λ (n : ℕ). number (part at 4 l) < 256 ^ n) (length-part at 4 l (omega arith)) (number-small (part at 4 l) (bytes-part at 4 p));
+        kind-known = a .0;
+        level-allowed = λ b. a .1 .0 (inl b);
+        nine-pairs = length-listTo 18 (λ k. signedNumber (part (at + 8 + 4 * k) 4 l));
+        inside = a .1 .1 .1 .0;
+        rest-zero = each-zero {l = unused (readRecord l at)} (inside-each (λ b. a .1 .1 .0 (inr b)));
+        sign-level = λ b. a .1 .0 (inr b);
+        sign-known = λ b. a .1 .1 .0 (inl b);
+      }
 
-pub stored-formed : (l : List ℕ) (at low : ℕ) → Bytes l → at + 80 ≤ length l → Accepted (recordCodes l at low) → WellFormed (readRecord l at)
-stored-formed l at low p h a =
-    record {
-      id-fits = subst (λ (n : ℕ). number (part at 4 l) < 256 ^ n) (length-part at 4 l (omega arith)) (number-small (part at 4 l) (bytes-part at 4 p));
-      kind-known = a .0;
-      level-allowed = a .1 .0;
-      nine-pairs = length-listTo 18 (λ k. signedNumber (part (at + 8 + 4 * k) 4 l));
-      inside = a .1 .1 .1 .0;
-      rest-zero = each-zero {l = unused (readRecord l at)} (inside-each (λ b. a .1 .1 .0 (inr (inr b))));
-    }
+  pub formed-stored : (r : Record) → WellFormed v r → readRecord l at ≡ r → low ≤ r .id → Accepted (recordCodes v l at low)
+  formed-stored r w e h = fits (subst (WellFormed v) (sym e) w) (subst (λ (x : Record). low ≤ x .id) (sym e) h)
+    where
+      zeros : WellFormed v (readRecord l at) → ¬ Beyond 0 (unused (readRecord l at))
+      zeros w (k, i, f) = absurd (N.not-suc-le-zero (rw (w .rest-zero k) at f))
 
-pub formed-stored : (l : List ℕ) (at low : ℕ) (r : Record) → WellFormed r → readRecord l at ≡ r
-    → getD l (at + 6) 0 ≡ 0 → getD l (at + 7) 0 ≡ 0 → low ≤ r .id → Accepted (recordCodes l at low)
-formed-stored l at low r w e a b h = fits (subst WellFormed (sym e) w) (subst (λ (x : Record). low ≤ x .id) (sym e) h)
-  where
-    zeros : WellFormed (readRecord l at) → ¬ NotZero l at
-    zeros v (inl f) = f a
-    zeros v (inr (inl f)) = f b
-    zeros v (inr (inr (k, i, f))) = absurd (N.not-suc-le-zero (rw (v .rest-zero k) at f))
-
-    fits : WellFormed (readRecord l at) → low ≤ readRecord l at .id → Accepted (recordCodes l at low)
-    fits v h = (v .kind-known, (v .level-allowed, (zeros v, (v .inside, ((λ f. N.not-le-of-lt f h), tt)))))
+      fits : WellFormed v (readRecord l at) → low ≤ readRecord l at .id → Accepted (recordCodes v l at low)
+      fits w h =
+          (w .kind-known, (⊎-elim (w .level-allowed) (w .sign-level), (⊎-elim (w .sign-known) (zeros w), (w .inside, ((λ f. N.not-le-of-lt f h), tt)))))

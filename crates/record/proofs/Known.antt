@@ -1,15 +1,13 @@
 -- What the tests of a stored record tell.
 --   known-small : a kind is at most 9
 --   known-level : and its level limit at most 10
---   all-zero    : the two bytes and the unused pairs are zero: code 9 is not given
 --   each-zero   : numbers within 0 are 0
 --   not-not     : two numbers that are not different are the same
 -- Assumes nothing.
 use mathlib.Core.Path.{_≡_, refl, ap}
 use mathlib.Core.Bool.{Bool, true, false}
 use mathlib.Core.List.{List}
-use mathlib.Core.Logic.{inl, inr}
-use Prim.Native.Nat.{ℕ, _+_, _≤_}
+use Prim.Native.Nat.{ℕ, _≤_}
 use native.Mathlib.Nat as N
 use native.Mathlib.Omega.{arith}
 use native.Mathlib.Decide.{decLe}
@@ -20,9 +18,6 @@ use lib.ListN.{getD}
 use Rattle.algebra.specs.Within.{Each}
 use Rattle.element.specs.Kinds.{Kind, six, eight, nine, NotKind, greatestLevel}
 use Rattle.element.specs.Refusals.{AboveLevel}
-use Rattle.faults.proofs.Limits.{each-inside}
-use Rattle.record.specs.Record.{unused, readRecord}
-use Rattle.record.specs.Faults.{NotZero}
 
 pub not-not : (m n : ℕ) → ¬ (¬ (m ≡ n)) → m ≡ n
 not-not m n f = go (eqb m n) (eqb-true m n) (eqb-false m n)
@@ -45,15 +40,6 @@ known-level k n f = N.le-trans (N.le-of-suc-le-suc (N.lt-of-not-le f)) (most k)
     most six = omega arith
     most eight = omega arith
     most nine = omega arith
-
-pub all-zero : (l : List ℕ) (at : ℕ)
-    → getD l (at + 6) 0 ≡ 0
-    → getD l (at + 7) 0 ≡ 0
-    → Each 0 (unused (readRecord l at))
-    → ¬ NotZero l at
-all-zero l at a b p (inl f) = f a
-all-zero l at a b p (inr (inl f)) = f b
-all-zero l at a b p (inr (inr f)) = each-inside p f
 
 pub each-zero : {l : List ℤ} → Each 0 l → (k : ℕ) → getD l k (pos 0) ≡ pos 0
 each-zero {l} p k = none (getD l k (pos 0)) (p .at k .size)

@@ -1,2 +1,3 @@
 pub mod Known
+pub mod Signs
 pub mod Codec

@@ -12,14 +12,16 @@ ghost use lib.ListN.{length, take, drop};
 ghost use Rattle.algebra.specs.Within.{Each};
 ghost use Rattle.element.specs.Kinds.{kindOf};
 ghost use Rattle.element.specs.Refusals.{Beyond, Outside, Coded};
-ghost use Rattle.record.specs.Record.{readCoords, readRecord};
-ghost use Rattle.record.specs.Faults.{recordCodes};
+ghost use Rattle.record.specs.Record.{mostSign, readCoords, readRecord};
+ghost use Rattle.record.specs.Faults.{signCodes, recordCodes};
 
-// Id, kind, level limit, and nine pairs of coordinates.
+// Id, kind, level limit, the two bytes of the sign, and nine pairs of coordinates.
 pub struct Record {
     pub id: u32,
     pub kind: u8,
     pub limit: u8,
+    pub signed: u8,
+    pub level: u8,
     pub coords: [i32; 18],
 }
 
@@ -47,13 +49,19 @@ pub fn read_record(s: &[u8], at: usize) -> Record
     let id = get_u32(s, at);
     let i = at + 4;
     let j = at + 5;
+    let m = at + 6;
+    let n = at + 7;
     let kind = s[i];
     let limit = s[j];
+    let signed = s[m];
+    let level = s[n];
     let coords = read_coords(s, at);
     Record {
         id,
         kind,
         limit,
+        signed,
+        level,
         coords,
     }
 }
@@ -84,10 +92,39 @@ fn used_inside(coords: [i32; 18], kind: u8) -> bool
     inside(kind, &coords[..n])
 }
 
-// The code of the record at a place: 1, 2, 9, 4, 10, or 0; low is the least id that may stand there.
-pub fn fault(s: &[u8], at: usize, low: u64) -> u8
+// The greatest first byte of a record in a block of this version.
+fn most_sign(version: u32) -> u8
+    ensures { λ r. ⌜ r ≡ mostSign version ⌝ }
+{
+    if version == 1 {
+        return 0;
+    }
+    2
+}
+
+// The code of a record's two bytes: 2, 9, or 0.
+fn sign_code(version: u32, kind: u8, signed: u8, level: u8) -> u8
+    ensures { λ c. ⌜ Coded (signCodes version (kindOf kind) signed level) c ⌝ }
+{
+    if most_sign(version) < signed {
+        return 9;
+    }
+    if signed == 0 {
+        if level == 0 {
+            return 0;
+        }
+        return 9;
+    }
+    if greatest_level(kind) < level {
+        return 2;
+    }
+    0
+}
+
+// The code of the record at a place in a block of this version: 1, 2, 9, 4, 10, or 0; low is the least id that may stand there.
+pub fn fault(s: &[u8], at: usize, version: u32, low: u64) -> u8
     requires { ⌜ at + 80 ≤ length (now s) ⌝ }
-    ensures { λ c. ⌜ Coded (recordCodes (now (s .entry)) at low) c ⌝ }
+    ensures { λ c. ⌜ Coded (recordCodes version (now (s .entry)) at low) c ⌝ }
 {
     let r = read_record(s, at);
     let kind = r.kind;
@@ -98,13 +135,9 @@ pub fn fault(s: &[u8], at: usize, low: u64) -> u8
     if greatest_level(kind) < r.limit {
         return 2;
     }
-    let i = at + 6;
-    let j = at + 7;
-    if s[i] != 0 {
-        return 9;
-    }
-    if s[j] != 0 {
-        return 9;
+    let c = sign_code(version, kind, r.signed, r.level);
+    if c != 0 {
+        return c;
     }
     if !unused_zero(coords, kind) {
         return 9;

@@ -1,7 +1,7 @@
 // Judges each element of the block on standard input 64 times, and prints the most cells of any: the judge without text, for ./bench.
 use block::check_block;
 use block::record_at;
-use list::judge;
+use signs::judge;
 
 // The cells of record k.
 fn cells(bytes: &[u8], k: u32) -> u32 {

@@ -13,7 +13,7 @@ use Rattle.list.proofs.Outcomes.{write-prefix, write-text}
 use Rattle.verdicts.specs.Input.{ListsInput}
 
 pub input-listed : (q : Profile) (b : List ℕ) (n : ℕ) (o o′ : List ℕ) (r : Listed) → place 800 < length b
-    → 65536 ≤ length o
+    → 71680 ≤ length o
     → WritesBy q (take n b) o o′ r
     → ListsInput q b n (take (r .length) o′)
 input-listed q b n o o′ r h k w input e =

@@ -12,7 +12,7 @@ ghost use Rattle.verdicts.specs.Input.{ListsInput};
 // Writes the list of an input, of which a buffer longer than any block holds the first n bytes, and answers its length.
 fn list_input(bytes: &[u8], n: usize, by: Profile, out: &mut [u8]) -> usize
     requires read { ⌜ (n ≤ length (now bytes)) × (place 800 < length (now bytes)) ⌝ }
-    requires room { ⌜ 65536 ≤ length (now out) ⌝ }
+    requires room { ⌜ 71680 ≤ length (now out) ⌝ }
     ensures text { λ r. ⌜ ListsInput by (now (bytes .entry)) n (take r (now (out .exit))) ⌝ }
     ensures within { λ r. ⌜ r ≤ length (now (out .exit)) ⌝ }
 {
@@ -24,7 +24,7 @@ fn list_input(bytes: &[u8], n: usize, by: Profile, out: &mut [u8]) -> usize
 fn print(by: Profile) {
     let mut bytes = [0u8; 65536];
     let n = io::read_full(0, &mut bytes);
-    let mut out = [0u8; 65536];
+    let mut out = [0u8; 71680];
     let length = list_input(&bytes, n, by, &mut out);
     io::write_all(1, &out[..length]);
 }

@@ -6,6 +6,7 @@ use Rattle.element.specs.Refusals.{Coded}
 use Rattle.element.proofs.Refusals.{coded-some, coded-none}
 use Rattle.block.specs.declared.Checked.{Checked}
 use Rattle.block.specs.Block.{countOf}
+use Rattle.block.specs.Faults.{blockCodes}
 use Rattle.block.specs.Calls.{Counted}
 use Rattle.block.proofs.Header.{header-size}
 use Rattle.block.proofs.Walk.{accepted-header}
@@ -16,7 +17,8 @@ use Rattle.append.proofs.append_code.Statement.{statement}
 use Rattle.append.proofs.append_code.Tie as tie
 
 -- the check's answer, once its code is none, and its count
-counted : (c : tie.Else1) → let k = c .before .before in Counted (k .before .before .args .bytes .now) (k .check-block .result)
+counted : (c : tie.Else1) → let k = c .before .before in
+    Counted (blockCodes (k .before .before .args .bytes .now)) (k .before .before .args .bytes .now) (k .check-block .result)
 counted c = let k = c .before .before in checks-counted (k .before .before .args .bytes .now) (k .check-block .result) (k .check-block .ensures) (c .if1 .left)
 
 count : (c : tie.Else1) → let k = c .before .before in k .check-block .result .count ≡ countOf (k .before .before .args .bytes .now)

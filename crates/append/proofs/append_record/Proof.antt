@@ -65,7 +65,7 @@ stored c =
     let d = c .before .before in
     let a = d .before .before .before .before .before .before .before .args in
     c .put-record .ensures
-    ∙ ap (λ (zs : List ℤ). over (a .buffer .now) (a .used) (recordBytes (record { id = a .id; kind = a .kind; limit = a .limit; coords = zs })))
+    ∙ ap (λ (zs : List ℤ). over (a .buffer .now) (a .used) (recordBytes (record { id = a .id; kind = a .kind; limit = a .limit; signed = 0; level = 0; coords = zs })))
     (d .pad .ensures)
 
 size : (c : tie.After-put-record) → length (c .put-record .last .0) ≡ length

@@ -70,7 +70,7 @@ returns-2 c =
     let a = e .before .before .before .args in
     inl (taken-moved (a .s) (one e) (c .one-more .result) _ _ (tried e) (c .one-more .ensures)
     (w .put-record .ensures
-    ∙ ap (λ (zs : List ℤ). over (a .out .now) (80 * a .s .taken) (recordBytes (record { id = a .id; kind = a .kind; limit = a .limit; coords = zs })))
+    ∙ ap (λ (zs : List ℤ). over (a .out .now) (80 * a .s .taken) (recordBytes (record { id = a .id; kind = a .kind; limit = a .limit; signed = 0; level = 0; coords = zs })))
     (d .pad .ensures)))
 
 pub take-spec : {M : Type 1} → statement M

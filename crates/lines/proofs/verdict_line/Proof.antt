@@ -1,7 +1,5 @@
 -- `lines::verdict_line` meets its contract: its pieces stand one behind the other, and each number has at most ten digits.
-use Prim.Native.Nat.{_≤_}
 use native.Mathlib.Omega.{arith}
-use lib.ListN.{length}
 use Rattle.text.proofs.Wrote.{wrote-more}
 use Rattle.lines.specs.Names.{nameOf}
 use Rattle.lines.proofs.Lengths.{name-short, verdict-line-short}
@@ -57,7 +55,7 @@ returns c = let c2 = c .before .before in let c3 = c2 .before in let c10 = c3 .b
     let s = c3 .struct-known4 .given .1 .1 .1 in (
       wrote-more (c22 .natural .ensures)
           (wrote-more (c18 .number .ensures) (wrote-more (c14 .put .ensures) (wrote-more (c10 .name .ensures) (c2 .four-numbers .ensures)))),
-      verdict-line-short (c25 .args .id) (c25 .args .kind) (nameOf (v .word)) (v .level) (v .i) (v .j) (v .cells)
+      verdict-line-short (c25 .args .id) (c25 .args .kind) (nameOf (v .word)) (v .level) (v .i) (v .j) (v .cells) (c25 .args .signed)
           (omega (arith, c25 .fits .id)) (omega (arith, c25 .fits .kind)) (name-short (v .word))
           (omega (arith, s .0)) (omega (arith, s .1 .0)) (omega (arith, s .1 .1 .0)) (omega (arith, s .1 .1 .1 .1 .0)),
     )

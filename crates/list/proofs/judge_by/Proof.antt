@@ -7,7 +7,7 @@ use lib.IntN.{ℤ}
 use lib.ListN.{take}
 use lib.Seq.{length-take-le}
 use Rattle.floor.specs.Calls.{ToldBy}
-use Rattle.list.proofs.Steps.{take-min}
+use Rattle.signs.proofs.Verdicts.{take-min}
 use borrow.Author.Needs.{needs}
 use Rattle.list.proofs.judge_by.Statement.{statement}
 use Rattle.list.proofs.judge_by.Tie as tie

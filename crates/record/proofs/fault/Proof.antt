@@ -1,16 +1,18 @@
 -- `record::fault` meets its contract: fault by fault.
-use mathlib.Core.Logic.{inl, inr}
+use mathlib.Core.Logic.{inl, inr, ⊎-elim}
 use borrow.Author.Needs.{needs}
 use borrow.Author.Tests.{not-true, not-false}
 use Prim.Native.Nat.{ℕ, _≤_, _<_}
 use native.Mathlib.Nat as N
 use Rattle.element.specs.Kinds.{NotKind, kindOf}
-use Rattle.element.specs.Refusals.{AboveLevel, Outside}
-use Rattle.element.proofs.Refusals.{coded-here, coded-past, coded-end}
+use Rattle.element.specs.Refusals.{AboveLevel, Outside, Accepted}
+use Rattle.element.proofs.Refusals.{coded-some, coded-none, coded-here, coded-past, coded-end}
+use Rattle.faults.proofs.Limits.{each-inside}
 use Rattle.record.specs.declared.Record.{Record}
 use Rattle.record.specs.Record.{used, readRecord}
-use Rattle.record.specs.Faults.{NotZero}
-use Rattle.record.proofs.Known.{known-small, all-zero}
+use Rattle.record.specs.Faults.{TooHigh, NotZero, signCodes}
+use Rattle.record.proofs.Known.{known-small}
+use Rattle.record.proofs.Signs.{sign-faults}
 use Rattle.record.proofs.fault.Statement.{statement}
 use Rattle.record.proofs.fault.Tie as tie
 
@@ -21,12 +23,12 @@ not-above h l = N.not-le-of-lt l h
 abbrev stored : tie.After-coords → Record
 stored c = let a = c .before .before .before .args in readRecord (a .s .now) (a .at)
 
--- from the test of the level limit, and from that of the unused pairs, back to the reading
+-- from the test of the level limit, and from that of the two bytes, back to the reading
 abbrev read : tie.Else2 → tie.After-coords
 read c = c .before .before .before .before .before
 
-abbrev level : tie.Else5 → tie.Else2
-level c = c .before .before .before .before .before .before
+abbrev level : tie.Else3 → tie.Else2
+level c = c .before .before
 
 -- what each test that was passed says of it
 kind-known : (c : tie.Else1) → ¬ NotKind (stored (c .before .before) .kind)
@@ -42,19 +44,25 @@ level-allowed c =
 small : (c : tie.Else2) → read c .before .read-record .result .kind ≤ 9
 small c = rw (read c .before .read-record .ensures) (known-small (stored (read c) .kind) (kind-known (c .before .before .before)))
 
-zeros : (c : tie.Else5) → let a = read (level c) .before .before .before .args in ¬ NotZero (a .s .now) (a .at)
-zeros c =
-    let e4 = c .before .before in
-    let e3 = e4 .before .before in
-    let r = read (level c) .before in
-    let a = r .before .before .args in
-    all-zero (a .s .now) (a .at) (e3 .if3 .left) (e4 .if4 .left)
-    (rw (r .read-record .ensures) at (c .before .unused-zero .ensures .0 (not-false (c .before .unused-zero .result) (c .if5 .left))))
+-- the two bytes, once their code is none
+signs : (c : tie.Else3) → let r = stored (read (level c)) in
+    Accepted (signCodes (read (level c) .before .before .before .args .version) (kindOf (r .kind)) (r .signed) (r .level))
+signs c = rw (read (level c) .before .read-record .ensures) at (coded-none (c .before .sign-code .ensures) tt (c .if3 .left))
 
-inside : (c : tie.Else6) → let r = stored (read (level (c .before .before))) in ¬ Outside (kindOf (r .kind)) (used r)
+not-high : (c : tie.Else3) → ¬ TooHigh (read (level c) .before .before .before .args .version) (stored (read (level c)))
+not-high c = ⊎-elim (level-allowed (level c)) (signs c .0)
+
+zeros : (c : tie.Else4) → let e = c .before .before in ¬ NotZero (read (level e) .before .before .before .args .version) (stored (read (level e)))
+zeros c =
+    let e = c .before .before in
+    let r = read (level e) .before in
+    ⊎-elim (signs e .1 .0)
+    (each-inside (rw (r .read-record .ensures) at (c .before .unused-zero .ensures .0 (not-false (c .before .unused-zero .result) (c .if4 .left)))))
+
+inside : (c : tie.Else5) → let r = stored (read (level (c .before .before .before .before))) in ¬ Outside (kindOf (r .kind)) (used r)
 inside c =
-    let r = read (level (c .before .before)) .before in
-    rw (r .read-record .ensures) at (c .before .used-inside .ensures .0 (not-false (c .before .used-inside .result) (c .if6 .left)))
+    let r = read (level (c .before .before .before .before)) .before in
+    rw (r .read-record .ensures) at (c .before .used-inside .ensures .0 (not-false (c .before .used-inside .result) (c .if5 .left)))
 
 read-record-requires : tie.Need-read-record-requires
 read-record-requires c κs = search needs
@@ -75,71 +83,63 @@ returns-2 c =
     let g = c .before .before in
     let r = g .before .before .before .before in
     coded-past (kind-known (g .before))
-    (coded-here (rw (r .read-record .ensures) at (rw (g .greatest-level .ensures) at (c .if2 .taken))))
+    (coded-here (inl (rw (r .read-record .ensures) at (rw (g .greatest-level .ensures) at (c .if2 .taken)))))
 
-add-i : tie.Need-add-i
-add-i c = search needs
-
-add-j : tie.Need-add-j
-add-j c = search needs
-
-shared-slice-read-if3 : tie.Need-shared-slice-read-if3
-shared-slice-read-if3 c = search needs
+sign-code-requires : tie.Need-sign-code-requires
+sign-code-requires c κs = search needs
 
 returns-3 : tie.Need-returns-3
 returns-3 c =
     let e2 = c .before .before in
-    coded-past (kind-known (e2 .before .before .before)) (coded-past (level-allowed e2) (coded-here (inl (c .if3 .taken))))
+    let r = read e2 .before in
+    coded-past (kind-known (e2 .before .before .before))
+    (sign-faults (level-allowed e2) (rw (r .read-record .ensures) at (coded-some (c .before .sign-code .ensures) (c .if3 .taken))))
 
-shared-slice-read-if4 : tie.Need-shared-slice-read-if4
-shared-slice-read-if4 c = search needs
+unused-zero-requires : tie.Need-unused-zero-requires
+unused-zero-requires c κs = small (level c)
 
 returns-4 : tie.Need-returns-4
 returns-4 c =
-    let e2 = c .before .before .before .before in
-    coded-past (kind-known (e2 .before .before .before)) (coded-past (level-allowed e2) (coded-here (inr (inl (c .if4 .taken)))))
+    let e3 = c .before .before in
+    let e2 = level e3 in
+    let r = read e2 .before in
+    coded-past (kind-known (e2 .before .before .before)) (coded-past (not-high e3)
+    (coded-here (inr (rw (r .read-record .ensures) at (c .before .unused-zero .ensures .1 (not-true (c .before .unused-zero .result) (c .if4 .taken)))))))
 
-unused-zero-requires : tie.Need-unused-zero-requires
-unused-zero-requires c κs = small (c .before .before .before .before)
+used-inside-requires : tie.Need-used-inside-requires
+used-inside-requires c κs = small (level (c .before .before))
 
 returns-5 : tie.Need-returns-5
 returns-5 c =
-    let e2 = c .before .before .before .before .before .before in
+    let e4 = c .before .before in
+    let e3 = e4 .before .before in
+    let e2 = level e3 in
     let r = read e2 .before in
-    coded-past (kind-known (e2 .before .before .before)) (coded-past (level-allowed e2)
-    (coded-here (inr (inr (rw (r .read-record .ensures) at (c .before .unused-zero .ensures .1 (not-true (c .before .unused-zero .result) (c .if5 .taken))))))))
+    coded-past (kind-known (e2 .before .before .before)) (coded-past (not-high e3) (coded-past (zeros e4)
+    (coded-here (rw (r .read-record .ensures) at (c .before .used-inside .ensures .1 (not-true (c .before .used-inside .result) (c .if5 .taken)))))))
 
-used-inside-requires : tie.Need-used-inside-requires
-used-inside-requires c κs = small (level c)
+cast-if6 : tie.Need-cast-if6
+cast-if6 c = search needs
 
 returns-6 : tie.Need-returns-6
 returns-6 c =
     let e5 = c .before .before in
-    let e2 = level e5 in
+    let e4 = e5 .before .before in
+    let e3 = e4 .before .before in
+    let e2 = level e3 in
     let r = read e2 .before in
-    coded-past (kind-known (e2 .before .before .before)) (coded-past (level-allowed e2) (coded-past (zeros e5)
-    (coded-here (rw (r .read-record .ensures) at (c .before .used-inside .ensures .1 (not-true (c .before .used-inside .result) (c .if6 .taken)))))))
-
-cast-if7 : tie.Need-cast-if7
-cast-if7 c = search needs
+    coded-past (kind-known (e2 .before .before .before)) (coded-past (not-high e3) (coded-past (zeros e4) (coded-past (inside e5)
+    (coded-here (rw (r .read-record .ensures) at (c .if6 .taken))))))
 
 returns-7 : tie.Need-returns-7
 returns-7 c =
-    let e6 = c .before .before in
-    let e5 = e6 .before .before in
-    let e2 = level e5 in
+    let e5 = c .before .before in
+    let e4 = e5 .before .before in
+    let e3 = e4 .before .before in
+    let e2 = level e3 in
     let r = read e2 .before in
-    coded-past (kind-known (e2 .before .before .before)) (coded-past (level-allowed e2) (coded-past (zeros e5) (coded-past (inside e6)
-    (coded-here (rw (r .read-record .ensures) at (c .if7 .taken))))))
-
-returns-8 : tie.Need-returns-8
-returns-8 c =
-    let e6 = c .before .before in
-    let e5 = e6 .before .before in
-    let e2 = level e5 in
-    let r = read e2 .before in
-    coded-past (kind-known (e2 .before .before .before)) (coded-past (level-allowed e2) (coded-past (zeros e5) (coded-past (inside e6)
-    (coded-past (not-above (rw (r .read-record .ensures) at (c .if7 .left))) coded-end))))
+    coded-past (kind-known (e2 .before .before .before)) (coded-past (not-high e3) (coded-past (zeros e4) (coded-past (inside e5)
+    (coded-past (not-above (rw (r .read-record .ensures) at (c .if6 .left))) coded-end))))
 
 pub fault-spec : {M : Type 1} → statement M
 fault-spec =
@@ -150,16 +150,12 @@ fault-spec =
     returns
     greatest-level-requires
     returns-2
-    add-i
-    add-j
-    shared-slice-read-if3
+    sign-code-requires
     returns-3
-    shared-slice-read-if4
-    returns-4
     unused-zero-requires
-    returns-5
+    returns-4
     used-inside-requires
+    returns-5
+    cast-if6
     returns-6
-    cast-if7
-    returns-7
-    returns-8)
+    returns-7)

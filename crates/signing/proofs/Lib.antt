@@ -1,0 +1,4 @@
+pub mod Orders
+pub mod Signed
+pub mod Outcomes
+pub mod Runs
