@@ -5,6 +5,7 @@ use crate::element::{code, Element};
 use crate::floor::floor_verdict;
 use crate::mesh::append_mesh;
 use crate::pack::append_text;
+use crate::sheet::{check_sheet, write_sheet};
 use crate::sign::{convert, sign};
 use crate::verdict::{Judged, Verdict};
 
@@ -52,6 +53,18 @@ fn bounds_answer(e: &Element) -> String {
             format!("0 {} {}", v.iter().min().unwrap(), v.iter().max().unwrap())
         }
         c => format!("{} 0 0", c),
+    }
+}
+
+// ---- sheets
+
+// The most room that the program `calls` gives a sheet.
+const MOST_ROOM: usize = 64_000;
+
+fn sheet_answer(room: usize, e: &Element) -> String {
+    match write_sheet(room, e) {
+        Ok(sheet) => format!("0 {} {}", sheet.len(), hex(&sheet)),
+        Err(c) => format!("{} 0 -", c),
     }
 }
 
@@ -151,6 +164,13 @@ fn call(line: &str) -> Option<String> {
         ["verdict", kind, limit, ref coords @ ..] => verdict_answer(verdict_of(&element(kind, limit, coords)?)),
         ["floor", p, kind, limit, ref coords @ ..] => {
             verdict_answer(floor_verdict(p.parse().ok()?, &element(kind, limit, coords)?))
+        }
+        ["sheet", room, kind, limit, ref coords @ ..] => {
+            let room = room.parse().ok().filter(|&n| n <= MOST_ROOM)?;
+            sheet_answer(room, &element(kind, limit, coords)?)
+        }
+        ["checksheet", sheet, kind, limit, ref coords @ ..] => {
+            check_sheet(&unhex(sheet)?, &element(kind, limit, coords)?).to_string()
         }
         ["check", block] => check_answer(&unhex(block)?),
         ["fetch", block, k] => fetch_answer(&unhex(block)?, k.parse().ok()?),

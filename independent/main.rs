@@ -1,10 +1,10 @@
-// An independent judge: it makes sets of elements, blocks, mesh texts and texts of records from fixed seeds, and writes what the checker
-// must answer to them.
-//   independent DIR    writes calls.txt, floors.txt, signs.txt, lists.txt, floorlists.txt, meshes.txt and packs.txt in DIR
+// An independent judge: it makes sets of elements, blocks, proof sheets, mesh texts and texts of records from fixed seeds, and writes what
+// the checker must answer to them.
+//   independent DIR    writes calls.txt, floors.txt, signs.txt, sheets.txt, lists.txt, floorlists.txt, meshes.txt and packs.txt in DIR
 //   independent -      answers the lines of standard input as the program calls does, a line each
-// A line of calls.txt, floors.txt, signs.txt, meshes.txt and packs.txt is `a line for the program calls -> its answer`; one of lists.txt
-// is `a block in hex -> what the program verdicts prints, its lines joined by " / "`, and one of floorlists.txt has the floor before the
-// block.
+// A line of calls.txt, floors.txt, signs.txt, sheets.txt, meshes.txt and packs.txt is `a line for the program calls -> its answer`; one of
+// lists.txt is `a block in hex -> what the program verdicts prints, its lines joined by " / "`, and one of floorlists.txt has the floor
+// before the block.
 
 mod answers;
 mod block;
@@ -16,6 +16,8 @@ mod mesh;
 mod pack;
 mod packs;
 mod sets;
+mod sheet;
+mod sheets;
 mod sign;
 mod signs;
 mod texts;
@@ -140,6 +142,7 @@ fn write_sets(dir: &str) {
     write("floors.txt", in_parallel(floors.iter().map(floors::Question::line).collect(), answered));
     write("floorlists.txt", in_parallel(floor_blocks, floor_list_line));
     write("signs.txt", in_parallel(signs::questions(&stock), answered));
+    write("sheets.txt", in_parallel(sheets::questions(), answered));
     write("meshes.txt", in_parallel(texts::questions().iter().map(texts::Question::line).collect(), answered));
     write("packs.txt", in_parallel(packs::questions().iter().map(packs::Question::line).collect(), answered));
 }

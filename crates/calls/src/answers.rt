@@ -3,7 +3,7 @@ use text::read::is_word;
 use text::read::next;
 use text::read::word_end;
 
-// The answer to a line, with its end of line; `?` to a line that is no call. What is no other call holds one block, or is none.
+// The answer to a line, with its end of line; `?` to a line that is no call. The calls on one element stand here.
 pub fn answer(line: &[u8], out: &mut [u8]) -> usize {
     let end = word_end(line, 0);
     let at = next(line, end);
@@ -19,6 +19,17 @@ pub fn answer(line: &[u8], out: &mut [u8]) -> usize {
     if is_word(line, 0, end, b"floor") {
         return element_lines::floor_line(line, at, out);
     }
+    if is_word(line, 0, end, b"sheet") {
+        return sheet_lines::sheet_line(line, at, out);
+    }
+    if is_word(line, 0, end, b"checksheet") {
+        return sheet_lines::checksheet_line(line, at, out);
+    }
+    block_answer(line, end, at, out)
+}
+
+// The calls on a block: what is no other of them holds one block, or is none.
+fn block_answer(line: &[u8], end: usize, at: usize, out: &mut [u8]) -> usize {
     if is_word(line, 0, end, b"fetch") {
         return block_lines::fetch_line(line, at, out);
     }

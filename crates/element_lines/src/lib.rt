@@ -2,6 +2,7 @@
 use control::Bounded;
 use floor::Profile;
 use floor::verdict_by;
+use pieces::element;
 use pieces::integers;
 use pieces::naturals;
 use pieces::unknown;
@@ -108,22 +109,13 @@ fn judged(told: Judged, out: &mut [u8]) -> usize {
 
 // Calls the verdict of a profile with `KIND LIMIT x y ..`.
 fn judged_line(line: &[u8], at: usize, out: &mut [u8], by: Profile) -> usize {
-    let kind = number(line, at);
-    let limit = number(line, kind.next);
     let mut coords = [0; 64];
-    let n = numbers(line, limit.next, &mut coords);
-    let k = up_to(kind, 255);
-    let l = up_to(limit, 255);
-    if 255 < k {
+    let asked = element(line, at, &mut coords);
+    if !asked.ok {
         return unknown(out);
     }
-    if 255 < l {
-        return unknown(out);
-    }
-    if 64 < n {
-        return unknown(out);
-    }
-    judged(verdict_by(by, k as u8, l as u8, &coords[..n]), out)
+    let n = asked.count;
+    judged(verdict_by(by, asked.kind, asked.limit, &coords[..n]), out)
 }
 
 // `verdict KIND LIMIT x y ..`: `code verdict level i j value cells`.

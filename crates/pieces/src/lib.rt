@@ -3,6 +3,8 @@ use points::coord;
 use text::read::hex;
 use text::read::next;
 use text::read::number;
+use text::read::numbers;
+use text::read::up_to;
 use text::read::word_end;
 use text::write;
 ghost use Prim.Native.Nat.{_≤_};
@@ -62,6 +64,47 @@ pub fn buffer_and_text(line: &[u8], from: usize, buffer: &mut [u8], text: &mut [
         used: used.size,
         buffer: n,
         text: m,
+    }
+}
+
+// What a call on an element is asked: the kind, the level limit, and how many coordinates there are. Not ok where the kind or the limit
+// is no number up to 255, or the coordinates are not all numbers of 32 bits or more than there is room for.
+pub struct Drawn {
+    pub ok: bool,
+    pub kind: u8,
+    pub limit: u8,
+    pub count: usize,
+}
+
+// Reads `KIND LIMIT x y ..`, the last words of a line.
+pub fn element(line: &[u8], at: usize, coords: &mut [i32]) -> Drawn
+    ensures { λ r. ⌜ r .count ≤ length (now (coords .entry)) ⌝ }
+{
+    let kind = number(line, at);
+    let limit = number(line, kind.next);
+    let n = numbers(line, limit.next, coords);
+    let k = up_to(kind, 255);
+    let l = up_to(limit, 255);
+    let bad = Drawn {
+        ok: false,
+        kind: 0,
+        limit: 0,
+        count: 0,
+    };
+    if 255 < k {
+        return bad;
+    }
+    if 255 < l {
+        return bad;
+    }
+    if coords.len() < n {
+        return bad;
+    }
+    Drawn {
+        ok: true,
+        kind: k as u8,
+        limit: l as u8,
+        count: n,
     }
 }
 

@@ -1,0 +1,3 @@
+-- Cuttings as bytes.
+pub mod Bytes
+pub mod Reads

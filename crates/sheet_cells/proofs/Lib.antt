@@ -1,0 +1,2 @@
+-- Cells of both shapes in one form.
+pub mod Shapes
