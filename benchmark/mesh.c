@@ -373,6 +373,17 @@ static void put(u8 *b, u32 v) {
     for (int k = 0; k < 4; k++) b[k] = v >> 8 * k;
 }
 
+// whether n numbers lie within most, as they stand or, of i32, from the first node
+static int ranged(const i64 *coords, int n, i64 most) {
+    int stand = 1, near = 1;
+    for (int m = 0; m < n; m++) {
+        i64 x = coords[m], d = x - coords[m % 2];
+        stand &= -most <= x && x <= most;
+        near &= -most <= d && d <= most && -2147483648ll <= x && x <= 2147483647ll;
+    }
+    return stand | near;
+}
+
 // the element as record k of the block; its code
 static int append(const struct hints *h, struct element e, u64 limit, i64 last, u64 k) {
     static const u8 orders[3][9] = {{0, 1, 2, 3, 4, 5}, {0, 4, 1, 7, 5, 3, 6, 2}, {0, 4, 1, 7, 8, 5, 3, 6, 2}};
@@ -385,8 +396,7 @@ static int append(const struct hints *h, struct element e, u64 limit, i64 last, 
         coords[2 * m] = n.x, coords[2 * m + 1] = n.y;
     }
     if (limit > (kind == 6 ? 10 : 4)) return 2;
-    for (int m = 0; m < 18; m++)
-        if (coords[m] > most || coords[m] < -most) return 4;
+    if (!ranged(coords, 2 * kind, most)) return 4;
     if ((i64)e.number <= last) return 10;
     if (k == RECORDS) return 11;
     u8 *r = block + 9 + 80 * k;

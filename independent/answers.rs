@@ -147,7 +147,7 @@ fn unhex(h: &str) -> Option<Vec<u8>> {
 }
 
 fn element(kind: &str, limit: &str, coords: &[&str]) -> Option<Element> {
-    let coords: Option<Vec<i32>> = coords.iter().map(|x| x.parse().ok()).collect();
+    let coords: Option<Vec<i64>> = coords.iter().map(|x| Some(x.parse::<i32>().ok()? as i64)).collect();
     Some(Element { kind: kind.parse().ok()?, limit: limit.parse().ok()?, coords: coords? })
 }
 

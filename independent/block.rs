@@ -1,7 +1,7 @@
 // Element blocks of both versions, straight from the rules: their own writer, the check record by record and then of what is signed, and
 // the list.
 
-use crate::element::{code, coordinate_limit, greatest_level, Element};
+use crate::element::{accepted, code, greatest_level, Element};
 use crate::verdict::{Judged, Verdict};
 
 pub struct Record {
@@ -14,7 +14,7 @@ pub fn record_bytes(r: &Record) -> Vec<u8> {
     out.extend([r.element.kind, r.element.limit, 0, 0]);
     for k in 0..18 {
         let x = r.element.coords.get(k).copied().unwrap_or(0);
-        out.extend(x.to_le_bytes());
+        out.extend((x as i32).to_le_bytes());
     }
     out
 }
@@ -51,12 +51,12 @@ pub struct Stored {
     pub limit: u8,
     pub signed: u8,
     pub level: u8,
-    pub pairs: Vec<i32>,
+    pub pairs: Vec<i64>,
 }
 
 pub fn stored(b: &[u8], k: usize) -> Stored {
     let at = 9 + 80 * k;
-    let pairs = (0..18).map(|i| u32_at(b, at + 8 + 4 * i) as i32).collect();
+    let pairs = (0..18).map(|i| u32_at(b, at + 8 + 4 * i) as i32 as i64).collect();
     Stored { id: u32_at(b, at), kind: b[at + 4], limit: b[at + 5], signed: b[at + 6], level: b[at + 7], pairs }
 }
 
@@ -98,8 +98,7 @@ impl Stored {
         if !self.has_good_bytes(version) || unused.iter().any(|&x| x != 0) {
             return 9;
         }
-        let most = coordinate_limit(self.kind);
-        if nodes.iter().any(|&x| (x as i64).abs() > most) {
+        if !accepted(self.kind, nodes) {
             return 4;
         }
         if self.id as i64 <= last {

@@ -1,13 +1,15 @@
 // One element, straight from the rules: J from the node derivatives, control values by interpolation of J, and the cells of a level.
 // Nothing here is shared with the checker: no control point, no cutting rule, no walk.
 
+// Wide enough for all values of an element, wherever in i32 it lies.
 pub type Num = i128;
 
 #[derive(Clone)]
 pub struct Element {
     pub kind: u8,
     pub limit: u8,
-    pub coords: Vec<i32>,
+    // as they are asked, x and y in turn; a record holds no other than those of i32
+    pub coords: Vec<i64>,
 }
 
 pub fn coordinate_limit(kind: u8) -> i64 {
@@ -16,6 +18,23 @@ pub fn coordinate_limit(kind: u8) -> i64 {
 
 pub fn greatest_level(kind: u8) -> u8 {
     if kind == 6 { 10 } else { 4 }
+}
+
+// Whether all these numbers lie within the kind's limit.
+pub fn within_limit(kind: u8, l: &[i64]) -> bool {
+    l.iter().all(|x| x.abs() <= coordinate_limit(kind))
+}
+
+// How far each node lies from the first node, x and y in turn.
+fn from_first_node(coords: &[i64]) -> Vec<i64> {
+    coords.iter().enumerate().map(|(k, x)| x - coords[k % 2]).collect()
+}
+
+// Whether the coordinates of all nodes of an element are accepted, else the code is 4: a record can hold them, and they all lie within the
+// kind's limit, or their differences from the first node all do.
+pub fn accepted(kind: u8, coords: &[i64]) -> bool {
+    let held = coords.iter().all(|&x| x >= i32::MIN as i64 && x <= i32::MAX as i64);
+    held && (within_limit(kind, coords) || within_limit(kind, &from_first_node(coords)))
 }
 
 // The code of a call on the element: 1, then 2 (the verdict only), 3, 4.
@@ -29,8 +48,7 @@ pub fn code(e: &Element, with_level: bool) -> u8 {
     if e.coords.len() != 2 * e.kind as usize {
         return 3;
     }
-    let most = coordinate_limit(e.kind);
-    if e.coords.iter().any(|&x| (x as i64).abs() > most) {
+    if !accepted(e.kind, &e.coords) {
         return 4;
     }
     0

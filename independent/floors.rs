@@ -3,9 +3,9 @@
 use crate::answers::words;
 use crate::block::block_bytes;
 use crate::blocks::{damaged, records};
-use crate::element::{code, coordinate_limit, Element};
+use crate::element::{coordinate_limit, Element};
 use crate::floor::{falls, floor_code, straight};
-use crate::sets::{elements, shaken, Random};
+use crate::sets::{elements, is_near, shaken, Random};
 
 // A call of `floor_verdict`.
 pub struct Question {
@@ -24,7 +24,7 @@ impl Question {
 const GREATEST_LEVEL: i64 = 7;
 
 // A triangle with p and any limit that is allowed, the greatest more often than another.
-fn question(r: &mut Random, p: i64, coords: Vec<i32>) -> Question {
+fn question(r: &mut Random, p: i64, coords: Vec<i64>) -> Question {
     let limit = r.range(0, GREATEST_LEVEL + 2).min(GREATEST_LEVEL) as u8;
     Question { p: p as u8, element: Element { kind: 6, limit, coords } }
 }
@@ -68,7 +68,7 @@ fn random(r: &mut Random) -> Option<Question> {
 
 // A triangle whose middle node k goes away by (x, y), in steps.
 struct Way {
-    coords: Vec<i32>,
+    coords: Vec<i64>,
     k: usize,
     by: (i64, i64),
     steps: i64,
@@ -79,7 +79,7 @@ impl Way {
         let most = coordinate_limit(6);
         let mut coords = self.coords.clone();
         for (c, d) in [(2 * self.k, self.by.0), (2 * self.k + 1, self.by.1)] {
-            coords[c] = (coords[c] as i64 + d * t / self.steps).clamp(-most, most) as i32;
+            coords[c] = (coords[c] + d * t / self.steps).clamp(-most, most);
         }
         Element { kind: 6, limit: 0, coords }
     }
@@ -153,7 +153,7 @@ fn nearly(r: &mut Random) -> Option<Question> {
 }
 
 // The triangle sheared by whole numbers, which alters no ratio, its numbering turned; unless a coordinate is beyond the limit.
-fn placed(r: &mut Random, points: &[(i64, i64)]) -> Option<Vec<i32>> {
+fn placed(r: &mut Random, points: &[(i64, i64)]) -> Option<Vec<i64>> {
     let (s, t) = (r.pick(&[0, 0, 0, 1, -1]), r.pick(&[0, 0, 0, 1, -1]));
     let turn = r.pick(&[[0, 1, 2, 3, 4, 5], [1, 2, 0, 4, 5, 3], [2, 0, 1, 5, 3, 4]]);
     let sheared = turn.iter().map(|&k| {
@@ -165,7 +165,7 @@ fn placed(r: &mut Random, points: &[(i64, i64)]) -> Option<Vec<i32>> {
     if coords.iter().any(|x| x.abs() > most) {
         return None;
     }
-    Some(coords.iter().map(|&x| x as i32).collect())
+    Some(coords)
 }
 
 // A floor that is met exactly, or nearly.
@@ -190,7 +190,7 @@ fn exactly(r: &mut Random) -> Option<Question> {
 // Coordinates at the limits, their numbering such that the corners turn to the left, if they turn.
 fn outermost(r: &mut Random) -> Option<Question> {
     let most = coordinate_limit(6);
-    let coords: Vec<i32> = (0..12).map(|_| r.pick(&[most, most, -most, -most, 0, most - 1, 1]) as i32).collect();
+    let coords: Vec<i64> = (0..12).map(|_| r.pick(&[most, most, -most, -most, 0, most - 1, 1])).collect();
     let p = any_floor(r);
     let q = question(r, p, coords);
     Some(if floor_code(q.p, &q.element) == 17 { mirrored(q) } else { q })
@@ -223,7 +223,7 @@ fn faulty(r: &mut Random, faults: u32) -> Question {
     if has(3) {
         let far = coordinate_limit(6) + r.pick(&[1, 1, 2, 100, 65_536]);
         let at = r.range(0, 11) as usize;
-        e.coords[at] = r.pick(&[far, far, -far, -far, i32::MAX as i64, i32::MIN as i64]) as i32;
+        e.coords[at] = r.pick(&[far, far, -far, -far, i32::MAX as i64, i32::MIN as i64]);
     }
     if has(2) {
         let length = r.pick(&[0, 1, 2, 6, 10, 11, 13, 14, 16, 18, 24]);
@@ -289,17 +289,16 @@ fn stock(r: &mut Random, from: &[Question]) -> Vec<Element> {
 pub fn blocks(from: &[Question]) -> Vec<(u8, Vec<u8>)> {
     let r = &mut Random(20_261_117);
     let from = stock(r, from);
-    let fits = |e: &Element| code(e, true) == 0;
     let mut out = Vec::new();
     for size in [0, 1, 2, 3, 5, 8, 13] {
         for p in [50, 1, 25, 99, r.pick(&[0, 100, 255])] {
-            out.push((p, block_bytes(&records(r, &from, size, fits))));
+            out.push((p, block_bytes(&records(r, &from, size, is_near))));
         }
         for _ in 0..4 {
-            let b = block_bytes(&records(r, &from, size, fits));
+            let b = block_bytes(&records(r, &from, size, is_near));
             out.push((r.pick(&[0, 10, 50, 50, 75, 100, 255]), damaged(r, &b)));
         }
     }
-    out.push((50, block_bytes(&records(r, &from, 800, fits))));
+    out.push((50, block_bytes(&records(r, &from, 800, is_near))));
     out
 }

@@ -1,15 +1,17 @@
 // An independent judge: it makes sets of elements, blocks, proof sheets, mesh texts and texts of records from fixed seeds, and writes what
 // the checker must answer to them.
-//   independent DIR    writes calls.txt, floors.txt, signs.txt, sheets.txt, lists.txt, floorlists.txt, meshes.txt and packs.txt in DIR
+//   independent DIR    writes calls.txt, floors.txt, signs.txt, sheets.txt, fars.txt, lists.txt, floorlists.txt, meshes.txt and packs.txt
+//                      in DIR
 //   independent -      answers the lines of standard input as the program calls does, a line each
-// A line of calls.txt, floors.txt, signs.txt, sheets.txt, meshes.txt and packs.txt is `a line for the program calls -> its answer`; one of
-// lists.txt is `a block in hex -> what the program verdicts prints, its lines joined by " / "`, and one of floorlists.txt has the floor
-// before the block.
+// A line of calls.txt, floors.txt, signs.txt, sheets.txt, fars.txt, meshes.txt and packs.txt is `a line for the program calls -> its
+// answer`; one of lists.txt is `a block in hex -> what the program verdicts prints, its lines joined by " / "`, and one of floorlists.txt
+// has the floor before the block.
 
 mod answers;
 mod block;
 mod blocks;
 mod element;
+mod fars;
 mod floor;
 mod floors;
 mod mesh;
@@ -27,9 +29,9 @@ mod words;
 use answers::{answer, words};
 use block::{block_bytes, check, hex, list};
 use blocks::{damaged, records};
-use element::{code, Element};
+use element::Element;
 use floor::floor_list;
-use sets::{elements, Random};
+use sets::{elements, is_near, Random};
 use std::sync::{Arc, Mutex};
 
 // ---- lines for the program `calls`
@@ -109,8 +111,8 @@ fn calls_and_blocks() -> (Vec<String>, Vec<Vec<u8>>) {
         let room = if r.range(0, 9) == 0 { r.range(0, 16) as u64 } else { r.range(16, 64) as u64 };
         calls.extend(control_questions(e, room));
     }
-    // an element of these blocks is one that `verdict` accepts, and not a slow one
-    let fits = |e: &Element| code(e, true) == 0 && e.limit <= 4;
+    // an element of these blocks is not a slow one
+    let fits = |e: &Element| is_near(e) && e.limit <= 4;
     for size in [0, 1, 2, 3, 4, 5, 8, 13, 800] {
         let b = block_bytes(&records(&mut r, &all, size, fits));
         blocks.push(b.clone());
@@ -143,6 +145,7 @@ fn write_sets(dir: &str) {
     write("floorlists.txt", in_parallel(floor_blocks, floor_list_line));
     write("signs.txt", in_parallel(signs::questions(&stock), answered));
     write("sheets.txt", in_parallel(sheets::questions(), answered));
+    write("fars.txt", in_parallel(fars::questions(), answered));
     write("meshes.txt", in_parallel(texts::questions().iter().map(texts::Question::line).collect(), answered));
     write("packs.txt", in_parallel(packs::questions().iter().map(packs::Question::line).collect(), answered));
 }

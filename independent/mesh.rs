@@ -48,7 +48,7 @@ fn positive(w: Word) -> Option<u32> {
 // A node: its number and its coordinates, none for one that is not whole.
 struct Node {
     number: u32,
-    at: [Option<i32>; 3],
+    at: [Option<i64>; 3],
 }
 
 // An element of the text, of any type.

@@ -1,7 +1,7 @@
 // Texts of records, good and faulty, and blocks to append them to, from a fixed seed.
 
 use crate::block::{block_bytes, hex};
-use crate::element::greatest_level;
+use crate::element::{greatest_level, Num};
 use crate::sets::Random;
 use crate::texts::{coordinate, coordinates, damaged, number, once_in, pick_word, spoil, stored_records, FRACTIONS, WORDS};
 
@@ -54,7 +54,7 @@ const KINDS: &[&str] = &["0", "1", "5", "7", "007", "10", "12", "255", "256", "2
 // Level limits that no kind has.
 const LIMITS: &[&str] = &["11", "0011", "12", "255", "256", "257", "260", "65536", "16777216", "4294967295"];
 
-// Whole coordinates that no kind has.
+// Whole coordinates outside the limit of every kind.
 const FAR: &[&str] = &[
     "65537", "-65537", "+65537.0", "0065537", "2147483647", "-2147483647.00", "-2147483648", "2147483648", "-2147483649", "4294967296",
     "4294967304.0", "18446744073709551616", "-18446744073709551608", "99999999999999999999999999999999999999999.000",
@@ -78,7 +78,7 @@ fn good_line(r: &mut Random, id: u64) -> Line {
     let limit = r.range(0, greatest_level(kind) as i64) as u64;
     let mut line = vec![number(r, id), number(r, kind as u64), number(r, limit)];
     for x in coordinates(r, kind) {
-        line.push(coordinate(r, x));
+        line.push(coordinate(r, x as Num));
     }
     line
 }

@@ -1,6 +1,6 @@
 // The sets of elements, from fixed seeds.
 
-use crate::element::{coordinate_limit, greatest_level, Element};
+use crate::element::{code, coordinate_limit, greatest_level, within_limit, Element};
 
 // A small generator of random numbers (splitmix64).
 pub struct Random(pub u64);
@@ -24,13 +24,13 @@ impl Random {
     }
 }
 
-fn clamp(kind: u8, x: i64) -> i32 {
+fn clamp(kind: u8, x: i64) -> i64 {
     let most = coordinate_limit(kind);
-    x.clamp(-most, most) as i32
+    x.clamp(-most, most)
 }
 
 // A straight-sided element of a size, turned by a shear, its nodes moved by at most `noise`.
-pub fn shaken(r: &mut Random, kind: u8, size: i64, noise: i64) -> Vec<i32> {
+pub fn shaken(r: &mut Random, kind: u8, size: i64, noise: i64) -> Vec<i64> {
     let half: Vec<(i64, i64)> = match kind {
         6 => vec![(0, 0), (2, 0), (0, 2), (1, 0), (1, 1), (0, 1)],
         8 => vec![(0, 0), (1, 0), (2, 0), (0, 1), (2, 1), (0, 2), (1, 2), (2, 2)],
@@ -49,7 +49,7 @@ pub fn shaken(r: &mut Random, kind: u8, size: i64, noise: i64) -> Vec<i32> {
 }
 
 // A triangle whose J nearly touches zero on an edge: G(t, 4) of the rules at the scale k, the middle of its edge moved.
-pub fn touching(k: i64, e: i64, x: i64) -> Vec<i32> {
+pub fn touching(k: i64, e: i64, x: i64) -> Vec<i64> {
     let points = [(-8 * k, 0), (8 * k, 0), (0, 16 * k), (x, 8 * k - e), (8 * k, 8 * k), (-8 * k, 8 * k)];
     points.iter().flat_map(|&(a, b)| [clamp(6, a), clamp(6, b)]).collect()
 }
@@ -65,7 +65,12 @@ const DEEP: &[(i64, i64, i64)] = &[
     (2638, 132, 2353), (1940, 44, 1167), (3442, 21, -1075),
 ];
 
-fn element(r: &mut Random, kind: u8, coords: Vec<i32>) -> Element {
+// Whether `verdict` accepts the element and all its coordinates lie within the kind's limit: those farther out are a set of their own.
+pub fn is_near(e: &Element) -> bool {
+    code(e, true) == 0 && within_limit(e.kind, &e.coords)
+}
+
+fn element(r: &mut Random, kind: u8, coords: Vec<i64>) -> Element {
     let greatest = if kind == 6 { 5 } else { greatest_level(kind) };
     let limit = r.range(0, greatest as i64) as u8;
     Element { kind, limit, coords }
@@ -89,14 +94,14 @@ pub fn elements() -> Vec<Element> {
             // large
             9 => shaken(&mut r, kind, most / 2, most / 12),
             // at the limits
-            10 => (0..2 * kind as usize).map(|_| r.pick(&[most, -most, 0, most - 1, 1]) as i32).collect(),
+            10 => (0..2 * kind as usize).map(|_| r.pick(&[most, -most, 0, most - 1, 1])).collect(),
             // nearly degenerate
             _ => {
                 let mut c = shaken(&mut r, kind, 64, 2);
                 let (a, b) = (r.range(-3, 3), r.range(-3, 3));
                 for k in 0..kind as usize {
-                    let x = c[2 * k] as i64;
-                    c[2 * k + 1] = clamp(kind, (x * a + c[2 * k + 1] as i64 * b) / 16 + r.range(-1, 1));
+                    let x = c[2 * k];
+                    c[2 * k + 1] = clamp(kind, (x * a + c[2 * k + 1] * b) / 16 + r.range(-1, 1));
                 }
                 c
             }
@@ -116,7 +121,7 @@ pub fn elements() -> Vec<Element> {
             out.push(Element { kind: 6, limit, coords: touching(k, e, x) });
         }
     }
-    // refused: the kind, the level, the length, the limit
+    // refused: the kind, the level, the length; and a coordinate beyond the limit, which may still be near the first node
     for n in 0..200u64 {
         let kind = r.pick(&[6, 8, 9]);
         let mut e = Element { kind, limit: r.range(0, 4) as u8, coords: shaken(&mut r, kind, 40, 8) };
@@ -126,7 +131,7 @@ pub fn elements() -> Vec<Element> {
             2 => e.coords.truncate(r.range(0, 2 * kind as i64 - 1) as usize),
             _ => {
                 let at = r.range(0, 2 * kind as i64 - 1) as usize;
-                e.coords[at] = (coordinate_limit(kind) + r.range(1, 9)) as i32 * r.pick(&[1, -1]);
+                e.coords[at] = (coordinate_limit(kind) + r.range(1, 9)) * r.pick(&[1, -1]);
             }
         }
         out.push(e);

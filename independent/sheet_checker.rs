@@ -27,6 +27,11 @@ fn det([a, b]: Point, [c, d]: Point) -> Num {
     a * d - b * c
 }
 
+// Whether all these points lie in the square around the centre, whose sides are so far from it.
+fn are_around(centre: Point, far: Num, points: &[Point]) -> bool {
+    points.iter().all(|&p| minus(p, centre).iter().all(|d| -far <= *d && *d <= far))
+}
+
 // ---- triangles
 
 // c00 c11 c22 c01 c12 c02
@@ -214,10 +219,10 @@ fn check(sheet: &[u8], kind: u8, limit: u8, coords: &[i32]) -> u8 {
     if coords.len() != 2 * kind as usize {
         return 3;
     }
-    if coords.iter().any(|&x| x < -farthest || x > farthest) {
+    let nodes: Vec<Point> = coords.chunks(2).map(|n| [n[0] as Num, n[1] as Num]).collect();
+    if !are_around([0, 0], farthest, &nodes) && !are_around(nodes[0], farthest, &nodes) {
         return 4;
     }
-    let nodes: Vec<Point> = coords.chunks(2).map(|n| [n[0] as Num, n[1] as Num]).collect();
     if is_accepted(&nodes, limit, sheet) { 0 } else { NOT_ACCEPTED }
 }
 

@@ -195,7 +195,7 @@ impl Way {
     fn at(&self, t: i64) -> Element {
         let (mut e, most) = (self.start.clone(), coordinate_limit(self.start.kind));
         for (c, d) in [(2 * self.k, self.by.0), (2 * self.k + 1, self.by.1)] {
-            e.coords[c] = (e.coords[c] as i64 + d * t / self.steps).clamp(-most, most) as i32;
+            e.coords[c] = (e.coords[c] + d * t / self.steps).clamp(-most, most);
         }
         e
     }
@@ -238,7 +238,7 @@ fn turned(kind: u8, points: &[(i64, i64)]) -> Vec<(i64, i64)> {
 }
 
 // The nodes of an element in half steps: of i along ξ or u, and of j along η or v.
-fn steps(kind: u8) -> &'static [(i64, i64)] {
+pub fn steps(kind: u8) -> &'static [(i64, i64)] {
     match kind {
         6 => &[(0, 0), (2, 0), (0, 2), (1, 0), (1, 1), (0, 1)],
         8 => &[(0, 0), (1, 0), (2, 0), (0, 1), (2, 1), (0, 2), (1, 2), (2, 2)],
@@ -259,7 +259,7 @@ fn valley(r: &mut Random, kind: u8) -> Option<Known> {
     for _ in 0..r.range(0, 3) {
         points = turned(kind, &points);
     }
-    let coords = points.iter().flat_map(|&(x, y)| [x as i32, y as i32].to_vec()).collect();
+    let coords = points.iter().flat_map(|&(x, y)| [x, y]).collect();
     Known::of(Element { kind, limit: quick(kind), coords }, None)
 }
 
@@ -483,7 +483,7 @@ fn foreign(r: &mut Random, stock: &[Known], out: &mut Vec<String>) {
 }
 
 // The element's own sheet, or what may be one, and the call that writes it.
-fn asked(r: &mut Random, e: &Element, out: &mut Vec<String>) {
+pub fn asked(r: &mut Random, e: &Element, out: &mut Vec<String>) {
     let sheet = sheet_of(&found(e).unwrap_or_else(|| full(r.range(0, e.limit.min(2) as i64) as u8)));
     let length = sheet.len();
     out.push(sheet_line(r.pick(&[length, length, length - 1, 0, 4_096]), e));
@@ -536,7 +536,7 @@ fn largest(r: &mut Random, kind: u8) -> Element {
     for &(x, y) in steps(kind) {
         for &place in &[x, y] {
             let off = r.pick(&[0, 0, 0, 1, -1, most / 8, -most / 8, most / 3, -most / 3]);
-            coords.push(((place - 1) * most + off).clamp(-most, most) as i32);
+            coords.push(((place - 1) * most + off).clamp(-most, most));
         }
     }
     Element { kind, limit: r.range(0, quick(kind) as i64) as u8, coords }
@@ -572,7 +572,7 @@ fn faulty(r: &mut Random, stock: &[Known], first: u32, out: &mut Vec<String>) {
     if has(3) {
         let far = coordinate_limit(e.kind) + r.pick(&[1, 1, 2, 100, 65_536]);
         let at = r.range(0, e.coords.len() as i64 - 1) as usize;
-        e.coords[at] = r.pick(&[far, far, -far, -far, i32::MAX as i64, i32::MIN as i64]) as i32;
+        e.coords[at] = r.pick(&[far, far, -far, -far, i32::MAX as i64, i32::MIN as i64]);
     }
     if has(2) {
         let lengths: Vec<usize> = (0..25).filter(|&n| n != e.coords.len()).collect();

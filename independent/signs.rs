@@ -3,11 +3,11 @@
 use crate::answers::words;
 use crate::block::{assembled, hex, record_bytes, signature, stored, Record};
 use crate::blocks::damaged;
-use crate::element::{code, coordinate_limit, greatest_level, Element};
+use crate::element::{coordinate_limit, greatest_level, Element};
 use crate::mesh::append_mesh;
 use crate::pack::append_text;
 use crate::packs;
-use crate::sets::{elements, touching, Random};
+use crate::sets::{elements, is_near, touching, Random};
 use crate::sign::{convert, sign};
 use crate::texts::{self, once_in};
 use crate::verdict::{Judged, Verdict};
@@ -53,7 +53,7 @@ impl Known {
 // Elements that are settled at each level that is not slow, and others that stay undecided.
 pub fn stock() -> Vec<Known> {
     let mut out: Vec<Known> = Vec::new();
-    for e in elements().iter().filter(|e| code(e, true) == 0) {
+    for e in elements().iter().filter(|e| is_near(e)) {
         let known = Known::of(e);
         if out.iter().filter(|k| k.sort() == known.sort()).count() < EACH {
             out.push(known);
@@ -374,17 +374,25 @@ fn signed_buffer(r: &mut Random, buffer: &[u8], used: u64) -> Option<Vec<u8>> {
     Some(b)
 }
 
+// Whether a block of so many bytes holds no element that lies farther out.
+fn all_near(b: &[u8], used: u64) -> bool {
+    (0..count(&b[..used as usize])).all(|k| is_near(&stored(b, k).element()))
+}
+
 // Texts and meshes appended to blocks of version 2: some of those of the other sets that are appended to blocks with records.
 fn texts_and_meshes(r: &mut Random, out: &mut Vec<String>) {
     let fits = |buffer: &[u8], used: u64| buffer.len() < 1_000 && used > 9;
-    let packs = packs::questions().into_iter().filter(|q| fits(&q.buffer, q.used) && append_text(&q.text, &q.buffer, q.used).is_ok());
+    let packs = packs::questions().into_iter().filter(|q| {
+        fits(&q.buffer, q.used) && append_text(&q.text, &q.buffer, q.used).is_ok_and(|(used, _, after)| all_near(&after, used))
+    });
     for q in packs.step_by(2) {
         if let Some(buffer) = signed_buffer(r, &q.buffer, q.used) {
             out.push(packs::Question { buffer, ..q }.line());
         }
     }
     let meshes = texts::questions().into_iter().filter(|q| {
-        fits(&q.buffer, q.used) && append_mesh(&q.text, q.limit, &q.buffer, q.used).0.code == 0
+        let (told, after) = append_mesh(&q.text, q.limit, &q.buffer, q.used);
+        fits(&q.buffer, q.used) && told.code == 0 && all_near(&after, told.used)
     });
     for q in meshes.step_by(6) {
         if let Some(buffer) = signed_buffer(r, &q.buffer, q.used) {

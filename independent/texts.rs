@@ -1,7 +1,7 @@
 // Gmsh texts, good and damaged, and blocks to append them to, from a fixed seed.
 
 use crate::block::{block_bytes, hex, Record};
-use crate::element::{coordinate_limit, Element};
+use crate::element::{coordinate_limit, Element, Num};
 use crate::mesh::places;
 use crate::sets::{shaken, Random};
 
@@ -101,7 +101,7 @@ fn shuffle<T>(r: &mut Random, l: &mut [T]) {
 }
 
 // A whole coordinate, in one of its ways.
-pub fn coordinate(r: &mut Random, x: i32) -> String {
+pub fn coordinate(r: &mut Random, x: Num) -> String {
     let plus = if x == 0 { r.pick(&["", "", "-", "+"]) } else { r.pick(&["", "", "", "", "+"]) };
     let sign = if x < 0 { "-" } else { plus };
     format!("{}{}{}{}", sign, r.pick(&["", "", "", "", "", "00"]), x.unsigned_abs(), r.pick(&["", "", "", "", ".0", ".000"]))
@@ -113,12 +113,21 @@ pub fn number(r: &mut Random, n: u64) -> String {
 }
 
 // The coordinates of an element, sometimes at the limit of its kind.
-pub fn coordinates(r: &mut Random, kind: u8) -> Vec<i32> {
+pub fn coordinates(r: &mut Random, kind: u8) -> Vec<i64> {
     let most = coordinate_limit(kind);
     match r.range(0, 5) {
-        0 => (0..2 * kind as usize).map(|_| r.pick(&[most, -most, 0, most - 1, 1]) as i32).collect(),
+        0 => (0..2 * kind as usize).map(|_| r.pick(&[most, -most, 0, most - 1, 1])).collect(),
         1 => shaken(r, kind, most / 2, most / 12),
         _ => shaken(r, kind, 40, 5),
+    }
+}
+
+// The type of Gmsh that becomes a kind.
+pub fn gmsh_type(kind: u8) -> u64 {
+    match kind {
+        6 => 9,
+        8 => 16,
+        _ => 10,
     }
 }
 
@@ -134,14 +143,9 @@ fn add_ours(r: &mut Random, d: &mut Draft, id: u64, kind: u8, base: u64, step: u
         let n = base + step * d.nodes.len() as u64;
         own[p] = number(r, n);
         let z = pick_word(r, &["0", "0", "0", "0", "0", "-0", "+0", "0.0", "-0.000", "000"]);
-        d.nodes.push(vec![number(r, n), coordinate(r, at[2 * k]), coordinate(r, at[2 * k + 1]), z]);
+        d.nodes.push(vec![number(r, n), coordinate(r, at[2 * k] as Num), coordinate(r, at[2 * k + 1] as Num), z]);
     }
-    let gmsh_type = match kind {
-        6 => 9,
-        8 => 16,
-        _ => 10,
-    };
-    let mut row = vec![number(r, id), number(r, gmsh_type), pick_word(r, TAGS)];
+    let mut row = vec![number(r, id), number(r, gmsh_type(kind)), pick_word(r, TAGS)];
     row.extend(own);
     d.elements.push(row);
 }

@@ -76,8 +76,8 @@ pub fn is_decimal(w: Word) -> bool {
     }
 }
 
-// The value of a whole coordinate, the nearest i32 where it is beyond i32 (G17). Both ends of i32 are outside every limit, as it is.
-pub fn whole_coordinate(w: Word) -> Option<i32> {
+// The value of a whole coordinate (G17); 2^32 or -2^32 where it is farther out, both of them beyond i32 as it is.
+pub fn whole_coordinate(w: Word) -> Option<i64> {
     let (minus, w) = unsigned(w);
     let digits = w.split(|&b| b == b'.').next()?;
     let behind = &w[digits.len()..];
@@ -85,6 +85,6 @@ pub fn whole_coordinate(w: Word) -> Option<i32> {
     if !is_digits(digits) || !zeros {
         return None;
     }
-    let size = value_up_to(digits, 1 << 31) as i64;
-    Some(if minus { -size } else { size }.min(i32::MAX as i64) as i32)
+    let size = value_up_to(digits, 1 << 32) as i64;
+    Some(if minus { -size } else { size })
 }

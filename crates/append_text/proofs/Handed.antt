@@ -10,7 +10,7 @@ use Prim.Native.Nat.{ℕ, _*_, _≤_, _<_, min}
 use native.Mathlib.Nat as N
 use native.Mathlib.Omega.{arith}
 use borrow.Author.Tests.{eqb-true, eqb-false, leb-true, leb-false}
-use lib.Dec.{eqb, leb}
+use lib.Dec.{eqb, leb, lit<}
 use lib.IntN.{ℤ}
 use lib.ListN.{length, take, drop, length-map, length-take}
 use lib.Seq.{take-all}
@@ -19,7 +19,9 @@ use Rattle.element.specs.Refusals.{Accepted, AboveLevel, WrongLength, Outside}
 use Rattle.append.specs.Append.{padded, followCodes}
 use Rattle.append.specs.Series.{Given, given, nextCodes}
 use Rattle.batch.proofs.Same.{SameCodes, same-code, codes-refl}
-use Rattle.batch.proofs.Clip.{Clips, no-clips, clip, clips-beyond, beyond-clips, clips-same, limit-small}
+use Rattle.batch.specs.Stands.{Stands}
+use Rattle.batch.proofs.Clip.{Clips, no-clips, clip, clips-stands}
+use Rattle.batch.proofs.Stands.{outside-to, outside-back, stands-same}
 use Rattle.mesh_text.specs.Rows.{first, rest}
 use Rattle.mesh_text.specs.Tests.{numberOf, valueOf, clipped}
 use Rattle.mesh_text.proofs.Rows.{by-test}
@@ -51,28 +53,28 @@ level-small eight = omega arith
 level-small nine = omega arith
 
 -- ---- coordinates
-pub clips-words : (us : List (List ℕ)) → Clips 2147483647 (map (clipped 2147483647) us) (map valueOf us)
+pub clips-words : (us : List (List ℕ)) → Clips 4294967295 (map (clipped 4294967295) us) (map valueOf us)
 clips-words [] = no-clips
-clips-words (u ∷ us) = clip (clip-size 2147483647 u) (clip-same 2147483647 u) (clips-words us)
+clips-words (u ∷ us) = clip (clip-size 4294967295 u) (clip-same 4294967295 u) (clips-words us)
 
 length-is : (n : ℕ) (xs : List ℤ) → ¬ WrongLength n xs → length xs ≡ 2 * n
 length-is n xs h = by-test (eqb (length xs) (2 * n)) (length xs ≡ 2 * n) (eqb-true (length xs) (2 * n)) (λ e. absurd (h (eqb-false (length xs) (2 * n) e)))
 
 module _ (us : List (List ℕ)) where
   abbrev few : List ℤ
-  few = map (clipped 2147483647) (take 19 us)
+  few = map (clipped 4294967295) (take 19 us)
 
   abbrev all : List ℤ
   all = map valueOf us
 
   few-length : length few ≡ min 19 (length us)
-  few-length = length-map (take 19 us) (clipped 2147483647) ∙ length-take 19 us
+  few-length = length-map (take 19 us) (clipped 4294967295) ∙ length-take 19 us
 
   all-length : length all ≡ length us
   all-length = length-map us valueOf
 
-  few-clips : length us ≤ 18 → Clips 2147483647 few all
-  few-clips h = subst (λ l. Clips 2147483647 (map (clipped 2147483647) l) all) (sym (take-all 19 us (omega arith))) (clips-words us)
+  few-clips : length us ≤ 18 → Clips 4294967295 few all
+  few-clips h = subst (λ l. Clips 4294967295 (map (clipped 4294967295) l) all) (sym (take-all 19 us (omega arith))) (clips-words us)
 
 -- ---- a record
 module _ (low count room : ℕ) (ws : List (List ℕ)) where
@@ -108,21 +110,24 @@ module _ (low count room : ℕ) (ws : List (List ℕ)) where
     wrong-back h z = h (omega (arith, few-length us, all-length us, e, small, z))
 
     module _ (r : ¬ WrongLength (min 255 n) (few us)) where
-      clips : Clips 2147483647 (few us) (all us)
+      clips : Clips 4294967295 (few us) (all us)
       clips = few-clips us (omega (arith, few-length us, length-is (min 255 n) (few us) r, e, small))
 
-      outside-to : Outside (kindOf (min 255 n)) (few us) → Outside (kindOf n) (all us)
-      outside-to h = clips-beyond (limit-small (kindOf n)) clips (subst (λ m. Outside (kindOf m) (few us)) e h)
+      stands : Stands (kindOf n) (few us) (all us)
+      stands = clips-stands (lit< tt) (kindOf n) clips
 
-      outside-back : Outside (kindOf n) (all us) → Outside (kindOf (min 255 n)) (few us)
-      outside-back h = subst (λ m. Outside (kindOf m) (few us)) (sym e) (beyond-clips (limit-small (kindOf n)) clips h)
+      out-to : Outside (kindOf (min 255 n)) (few us) → Outside (kindOf n) (all us)
+      out-to h = outside-to (kindOf n) (few us) (all us) stands (subst (λ m. Outside (kindOf m) (few us)) e h)
+
+      out-back : Outside (kindOf n) (all us) → Outside (kindOf (min 255 n)) (few us)
+      out-back h = subst (λ m. Outside (kindOf m) (few us)) (sym e) (outside-back (kindOf n) (few us) (all us) stands h)
 
   pub handed-codes : SameCodes (nextCodes low count room (handed ws)) (nextCodes low count room (givenOf ws))
   handed-codes =
       same-code (kind-same n) (same-kind n)
       (λ k. same-code (level-to k) (level-back k)
       (λ _. same-code (wrong-to k) (wrong-back k)
-      (λ r. same-code (outside-to k r) (outside-back k r)
+      (λ r. same-code (out-to k r) (out-back k r)
       (λ _. codes-refl (followCodes low count room (numberOf (first ws)))))))
 
   pub handed-given : Accepted (nextCodes low count room (givenOf ws)) → given (handed ws) ≡ given (givenOf ws)
@@ -131,7 +136,7 @@ module _ (low count room : ℕ) (ws : List (List ℕ)) where
       let g = level-small (kindOf n) in
       let i : min 255 l ≡ l = omega (arith, g, N.le-of-suc-le-suc (N.lt-of-not-le (a .1 .0))) in
       let h : length us ≤ 18 = omega (arith, all-length us, length-is n (all us) (a .1 .1 .0), small k) in
-      let c : few us ≡ all us = clips-same (limit-small (kindOf n)) (few-clips us h) (a .1 .1 .1 .0) in
+      let c : few us ≡ all us = stands-same (kindOf n) (few us) (all us) (clips-stands (lit< tt) (kindOf n) (few-clips us h)) (a .1 .1 .1 .0) in
       ap₂ (λ (m o : ℕ). record { id = numberOf (first ws); kind = m; limit = o; signed = 0; level = 0; coords = padded (few us) }) (e k) i
       ∙ ap (λ (xs : List ℤ). record { id = numberOf (first ws); kind = n; limit = l; signed = 0; level = 0; coords = padded xs }) c
 

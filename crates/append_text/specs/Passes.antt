@@ -1,6 +1,6 @@
 -- A pass over the lines of a text: the record of each line that counts is tried behind those before.
---   handed ws        == what is handed over of a line: 255 for a kind or a level limit above it, the first 19 coordinates, each beyond i32
---                       as the nearest of i32
+--   handed ws        == what is handed over of a line: 255 for a kind or a level limit above it, the first 19 coordinates, each beyond
+--                       2^32 - 1 in size as one of that size
 --   givensBy ws      == the record that a line of the words ws says; none where it counts for nothing
 --   Halts gs z b r a == one of the records gs is refused, behind those before it that pass; r has its code and its line
 --   Gathers gs z b r a == all of gs pass, or it halts
@@ -28,7 +28,7 @@ handed ws =
       id = numberOf (first ws);
       kind = min 255 (numberOf (first (rest ws)));
       limit = min 255 (numberOf (first (rest (rest ws))));
-      coords = map (clipped 2147483647) (take 19 (drop 3 ws));
+      coords = map (clipped 4294967295) (take 19 (drop 3 ws));
     }
 
 abbrev pub givensBy : List (List ℕ) → List Given

@@ -28,7 +28,7 @@ fn take_record(t: &[u8], at: usize, s: Tally, out: &mut [u8]) -> Tally
     requires long { ⌜ 64000 ≤ length (now out) ⌝ }
     ensures { λ r. ⌜ Moves (handed (line (drop at (now (t .entry)))) ∷ []) 0 s (now (out .entry)) r (now (out .exit)) ⌝ }
 {
-    let mut xs = [0i32; 19];
+    let mut xs = [0i64; 19];
     let n = coords_at(t, at, &mut xs);
     let id = id_at(t, at);
     let kind = kind_at(t, at);

@@ -56,10 +56,10 @@ fn behind_three(t: &[u8], at: usize) -> usize
 }
 
 // The words left in the line at a place as coordinates, as many as there is room for; answers how many.
-fn coords_from(t: &[u8], at: usize, xs: &mut [i32]) -> usize
+fn coords_from(t: &[u8], at: usize, xs: &mut [i64]) -> usize
     requires { ⌜ at ≤ length (now t) ⌝ }
     ensures within { λ r. ⌜ r ≤ length (now (xs .entry)) ⌝ }
-    ensures read { λ r. ⌜ take r (now (xs .exit)) ≡ map (clipped 2147483647) (take (length (now (xs .entry))) (line (drop at (now (t .entry))))) ⌝ }
+    ensures read { λ r. ⌜ take r (now (xs .exit)) ≡ map (clipped 4294967295) (take (length (now (xs .entry))) (line (drop at (now (t .entry))))) ⌝ }
 {
     let mut p = at;
     let mut i: usize = 0;
@@ -75,10 +75,10 @@ fn coords_from(t: &[u8], at: usize, xs: &mut [i32]) -> usize
 }
 
 // The coordinates in the line at a place.
-pub fn coords_at(t: &[u8], at: usize, xs: &mut [i32]) -> usize
+pub fn coords_at(t: &[u8], at: usize, xs: &mut [i64]) -> usize
     requires { ⌜ at ≤ length (now t) ⌝ }
     ensures within { λ r. ⌜ r ≤ length (now (xs .entry)) ⌝ }
-    ensures read { λ r. ⌜ take r (now (xs .exit)) ≡ map (clipped 2147483647) (take (length (now (xs .entry))) (drop 3 (line (drop at (now (t .entry)))))) ⌝ }
+    ensures read { λ r. ⌜ take r (now (xs .exit)) ≡ map (clipped 4294967295) (take (length (now (xs .entry))) (drop 3 (line (drop at (now (t .entry)))))) ⌝ }
 {
     coords_from(t, behind_three(t, at), xs)
 }

@@ -1,24 +1,24 @@
--- A coordinate beyond i32 may be read as the nearest of i32: no code notices, and what passes is what was written.
+-- A coordinate beyond 2^32 - 1 in size may be read as one of that size: no code notices, and what passes is what was written.
 --   Clips m xs ys  == the numbers xs are ys, each clipped at m
 --   clips-length, clips-more, clips-list : as many; one more; numbers that are given one by one
---   clips-beyond, beyond-clips : one of them is beyond a limit below m where one of the others is
---   clips-same     : where none is, they are the same
---   clip-codes     : the codes of a record with the one are those with the other
---   clip-coords    : where it passes nothing is clipped
+--   clips-unheld   : where one of ys is no i32 one of xs is none
+--   clips-same     : where all are i32, they are the same
+--   clips-stands   : so the clipped numbers stand for the others
 -- Assumes nothing.
-use mathlib.Core.Path.{_≡_, refl, sym, ap, ap₂, _∙_}
+use mathlib.Core.Path.{_≡_, refl, sym, ap, ap₂}
 use mathlib.Core.List.{List, [], _∷_, _++_}
-use Prim.Native.Nat.{ℕ, zero, suc, _≤_, _<_, min}
+use Prim.Native.Nat.{ℕ, zero, suc, _≤_, _<_, min, zero-le, suc-le-suc}
 use native.Mathlib.Nat as N
+use native.Mathlib.Decide.{decLe}
 use native.Mathlib.Omega.{arith}
 use lib.IntN.{ℤ, natAbs}
 use lib.ListN.{length}
+use lib.Signed.{mag}
 use Rattle.algebra.specs.Fill.{listTo}
-use Rattle.element.specs.Kinds.{Kind, six, eight, nine, NotKind, coordinateLimit, kindOf}
-use Rattle.element.specs.Refusals.{Accepted, Beyond, AboveLevel, WrongLength}
-use Rattle.append.specs.Append.{followCodes}
-use Rattle.append.specs.Series.{nextCodes}
-use Rattle.batch.proofs.Same.{SameCodes, same-code, codes-refl}
+use Rattle.element.specs.Kinds.{Kind}
+use Rattle.element.specs.Origin.{Held, Unheld}
+use Rattle.element.proofs.Ranges.{size-small, unheld-outside}
+use Rattle.batch.specs.Stands.{Stands}
 
 -- ---- lists of numbers
 pub data Clips (m : ℕ) : List ℤ → List ℤ → Type 0 where
@@ -44,44 +44,32 @@ pub clips-list : {m : ℕ} (n : ℕ) (f g : ℕ → ℤ)
 clips-list zero f g e h = no-clips
 clips-list (suc n) f g e h = clips-more (clips-list n f g e h) (e n) (h n)
 
-module _ {m l : ℕ} (h : l < m) where
-  pub clips-beyond : {xs ys : List ℤ} → Clips m xs ys → Beyond l xs → Beyond l ys
-  clips-beyond no-clips b = b
-  clips-beyond (clip e f c) (zero, k, b) = (zero, omega arith, omega (arith, e))
-  clips-beyond (clip e f c) (suc i, k, b) = let r = clips-beyond c (i, omega arith, b) in (suc (r .0), omega (arith, r .1), r .2)
+-- ---- beyond i32
+module _ {m : ℕ} (h : 2147483648 < m) where
+  one-unheld : {x y : ℤ} → natAbs x ≡ min m (natAbs y) → (natAbs y ≤ m → x ≡ y) → ¬ Held y → ¬ Held x
+  one-unheld {x} {y} e f g = go (decLe (natAbs y) m)
+    where
+      go : Dec (natAbs y ≤ m) → ¬ Held x
+      go (yes l) k = g (rw (f l) at k)
+      go (no l) k = absurd (omega (arith, e, N.lt-of-not-le l, size-small x, k))
 
-  pub beyond-clips : {xs ys : List ℤ} → Clips m xs ys → Beyond l ys → Beyond l xs
-  beyond-clips no-clips b = b
-  beyond-clips (clip e f c) (zero, k, b) = (zero, omega arith, omega (arith, e))
-  beyond-clips (clip e f c) (suc i, k, b) = let r = beyond-clips c (i, omega arith, b) in (suc (r .0), omega (arith, r .1), r .2)
+  pub clips-unheld : {xs ys : List ℤ} → Clips m xs ys → Unheld ys → Unheld xs
+  clips-unheld no-clips u = u
+  clips-unheld (clip e f c) (zero, k, g) = (zero, suc-le-suc zero-le, one-unheld e f g)
+  clips-unheld (clip e f c) (suc i, k, g) = let r = clips-unheld c (i, N.le-of-suc-le-suc k, g) in (suc (r .0), suc-le-suc (r .1), r .2)
 
-  pub clips-same : {xs ys : List ℤ} → Clips m xs ys → ¬ Beyond l ys → xs ≡ ys
+  small : (y : ℤ) → ¬ ¬ Held y → natAbs y ≤ m
+  small y f = go (decLe (suc (mag y)) 2147483648)
+    where
+      go : Dec (Held y) → natAbs y ≤ m
+      go (yes l) = omega (arith, size-small y, l)
+      go (no l) = absurd (f l)
+
+  pub clips-same : {xs ys : List ℤ} → Clips m xs ys → ¬ Unheld ys → xs ≡ ys
   clips-same no-clips n = refl
   clips-same (clip {y = y} e f c) n =
-      ap₂ (λ (x : ℤ) (xs : List ℤ). x ∷ xs) (f (omega (arith, N.lt-of-not-le (λ b. n (zero, omega arith, b)))))
-      (clips-same c (λ b. n (suc (b .0), omega (arith, b .1), b .2)))
+      ap₂ (λ (x : ℤ) (xs : List ℤ). x ∷ xs) (f (small y (λ g. n (zero, suc-le-suc zero-le, g))))
+      (clips-same c (λ u. n (suc (u .0), suc-le-suc (u .1), u .2)))
 
--- ---- a record
-pub limit-small : (k : Kind) → coordinateLimit k < 2147483647
-limit-small six = omega arith
-limit-small eight = omega arith
-limit-small nine = omega arith
-
-module _ (low count room id kind limit : ℕ) {xs ys : List ℤ} (c : Clips 2147483647 xs ys) where
-  pub clip-codes :
-      SameCodes (nextCodes low count room (record { id = id; kind = kind; limit = limit; coords = xs }))
-      (nextCodes low count room (record { id = id; kind = kind; limit = limit; coords = ys }))
-  clip-codes =
-      let k = kindOf kind in
-      let e = clips-length c in
-      let to : WrongLength kind xs → WrongLength kind ys = λ x y. x (e ∙ y) in
-      let back : WrongLength kind ys → WrongLength kind xs = λ x y. x (sym e ∙ y) in
-      let same : (F : Type 0) → F → F = λ F x. x in
-      same-code (same (NotKind kind)) (same (NotKind kind))
-      (λ _. same-code (same (AboveLevel k limit)) (same (AboveLevel k limit))
-      (λ _. same-code to back
-      (λ _. same-code (clips-beyond (limit-small k) c) (beyond-clips (limit-small k) c)
-      (λ _. codes-refl (followCodes low count room id)))))
-
-  pub clip-coords : Accepted (nextCodes low count room (record { id = id; kind = kind; limit = limit; coords = ys })) → xs ≡ ys
-  clip-coords a = clips-same (limit-small (kindOf kind)) c (a .1 .1 .1 .0)
+  pub clips-stands : (k : Kind) {xs ys : List ℤ} → Clips m xs ys → Stands k xs ys
+  clips-stands k {xs} c = record { same = clips-same c; far = λ u. unheld-outside k xs (clips-unheld c u) }

@@ -54,4 +54,4 @@ module _ (id level : ℕ) (b : List ℕ) (used : ℕ) (l : level ≤ 10)
       let id-ok : ¬ (id < lowest (take used b) (countOf (take used b))) = λ k. absurd (omega arith) in
       let count-ok : ¬ (800 ≤ countOf (take used b)) = λ k. absurd (omega arith) in
       let room-ok : ¬ (length b - used < 80) = λ k. absurd (omega arith) in
-      first ((λ k. k .0 refl), (level-ok, ((λ k. k refl), (within 65536 (triangle id level .coords) refl, (id-ok, (count-ok, (room-ok, tt))))))) empty
+      first ((λ k. k .0 refl), (level-ok, ((λ k. k refl), ((λ o. within 65536 (triangle id level .coords) refl (o .0)), (id-ok, (count-ok, (room-ok, tt))))))) empty

@@ -4,5 +4,7 @@ pub mod Tallies
 pub mod Takes
 pub mod Runs
 pub mod Same
+pub mod Held
+pub mod Stands
 pub mod Clip
 pub mod Example

@@ -1,5 +1,6 @@
 // Records that are tried one after another behind a good block, and written at once.
 mod bytes;
+mod narrow;
 
 use append::lowest_id;
 use append::next_code;
@@ -7,6 +8,7 @@ use append::pad;
 use append::put_record;
 use bytes::copy;
 use endian::put_u32;
+use narrow::narrowed;
 use record::Record;
 ghost use mathlib.Core.Path.{_≡_};
 ghost use mathlib.Core.List.{[], _∷_};
@@ -96,7 +98,7 @@ fn one_more(s: Tally, id: u32) -> Tally
 }
 
 // Tries a record, and writes it behind those that were taken.
-pub fn take(s: Tally, id: u32, kind: u8, limit: u8, coords: &[i32], out: &mut [u8]) -> Tally
+fn take_held(s: Tally, id: u32, kind: u8, limit: u8, coords: &[i32], out: &mut [u8]) -> Tally
     requires few { ⌜ s .taken ≤ s .count ⌝ }
     requires long { ⌜ 64000 ≤ length (now out) ⌝ }
     ensures { λ r. ⌜ Moves (record { id = id; kind = kind; limit = limit; coords = now (coords .entry) } ∷ []) 0 s (now (out .entry)) r (now (out .exit)) ⌝ }
@@ -123,6 +125,18 @@ pub fn take(s: Tally, id: u32, kind: u8, limit: u8, coords: &[i32], out: &mut [u
         },
     );
     one_more(s, id)
+}
+
+// Tries a record of any numbers, and writes it behind those that were taken: a number that is no i32 is outside.
+pub fn take(s: Tally, id: u32, kind: u8, limit: u8, coords: &[i64], out: &mut [u8]) -> Tally
+    requires few { ⌜ s .taken ≤ s .count ⌝ }
+    requires long { ⌜ 64000 ≤ length (now out) ⌝ }
+    requires short { ⌜ length (now coords) ≤ 19 ⌝ }
+    ensures { λ r. ⌜ Moves (record { id = id; kind = kind; limit = limit; coords = now (coords .entry) } ∷ []) 0 s (now (out .entry)) r (now (out .exit)) ⌝ }
+{
+    let zs = narrowed(coords);
+    let n = coords.len();
+    take_held(s, id, kind, limit, &zs[..n], out)
 }
 
 // Writes the records that were taken behind the block, and the count; answers how many bytes are used.

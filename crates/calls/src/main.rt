@@ -3,8 +3,8 @@ mod answers;
 mod input;
 
 fn main() {
-    // a line has at most 170,000 characters; an answer six numbers and at most 65,536 bytes in hex
+    // a line has at most 170,000 characters; the longest answer is that of `walk`: 800 records of at most 242 characters
     let mut line = [0u8; 170001];
-    let mut out = [0u8; 131272];
+    let mut out = [0u8; 200001];
     input::run(&mut line, &mut out);
 }

@@ -22,7 +22,7 @@ use Rattle.element.specs.Refusals.{Codes, no-more, code, Refused, Accepted, Cod
 use Rattle.element.proofs.Values.{values-length}
 use Rattle.element.proofs.Sizes.{values-size}
 use Rattle.element.proofs.Refusals.{coded-some}
-use Rattle.faults.proofs.Limits.{accepted-each}
+use Rattle.faults.proofs.Limits.{accepted-inside}
 use Rattle.quad.specs.Points.{quadKind}
 use Rattle.control.specs.Calls.{controlled, ControlValues, BoundsOf, SolverBounds}
 use Rattle.control.specs.declared.Controlled.{Controlled}
@@ -100,7 +100,7 @@ pub values-small : (n : ℕ) (xs : List ℤ) {values : List ℤ}
     → Accepted (boundsCodes n xs)
     → values ≡ controlValues (kindOf n) xs
     → Each (2 ^ 53) values
-values-small n xs a e = each-as e (each-≤ (values-size (kindOf n) xs (accepted-each n xs a)) (size-small (kindOf n)))
+values-small n xs a e = each-as e (each-≤ (values-size (kindOf n) xs (accepted-inside n xs a)) (size-small (kindOf n)))
 
 some : (k : Kind) → 0 < valueCount k
 some six = lit< tt

@@ -6,6 +6,8 @@ pub mod Centre
 pub mod Mean
 pub mod Places
 pub mod Values
+pub mod Origin
+pub mod Ranges
 pub mod Sizes
 pub mod Bounds
 pub mod Paper

@@ -9,4 +9,5 @@ pub mod Control
 pub mod Paper
 pub mod Cells
 pub mod Bounds
+pub mod Origin
 pub mod Refusals

@@ -4,6 +4,7 @@
 --   Refused o c      == c names the first fault of the order that is there
 --   Accepted o       == no fault of the order is there
 --   Coded o c        == c is the code of a call with this order: 0 when it is accepted
+--   Beyond n xs, Astray n xs == some number is beyond n; xs is not within n, neither as it stands nor from the first node
 --   NotKind n, AboveLevel k l, WrongLength n xs, Outside k xs, ShortRoom k room == the faults of an element
 --   controlCodes, boundsCodes, verdictCodes == the orders of the calls
 -- Definitions only.
@@ -15,6 +16,7 @@ use lib.IntN.{ℤ, natAbs}
 use lib.ListN.{length}
 use Rattle.element.specs.Kinds.{Kind, kindOf, NotKind, coordinateLimit, greatestLevel, valueCount}
 use Rattle.element.specs.Control.{at}
+use Rattle.element.specs.Origin.{fromFirst, Unheld}
 
 pub data Codes (A : Type 0) : Type 1 where
   no-more : Codes A
@@ -46,12 +48,17 @@ AboveLevel k l = greatestLevel k < l
 abbrev pub WrongLength : ℕ → List ℤ → Type 0
 WrongLength n xs = ¬ (length xs ≡ 2 * n)
 
--- 4: "a coordinate outside its limit"
+-- 4: "a coordinate outside its limit"; "the coordinates are accepted if all lie within the kind's limit, as before, or if every node's
+-- difference from the first node, in x and in y, does", and "Code 4 is given when neither holds" (02, Ask 7). The calls are given i32; a
+-- text may say a number that is none, and no record holds it, wherever the first node is
 abbrev pub Beyond : ℕ → List ℤ → Type 0
 Beyond n xs = (i : ℕ) × (i < length xs) × (n < natAbs (at xs i))
 
+abbrev pub Astray : ℕ → List ℤ → Type 0
+Astray n xs = Beyond n xs × (Beyond n (fromFirst xs) ⊎ Unheld xs)
+
 abbrev pub Outside : Kind → List ℤ → Type 0
-Outside k xs = Beyond (coordinateLimit k) xs
+Outside k xs = Astray (coordinateLimit k) xs
 
 -- 5: "buffer too short"
 abbrev pub ShortRoom : Kind → ℕ → Type 0

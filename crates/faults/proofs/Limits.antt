@@ -1,24 +1,22 @@
 -- What the tests of a kind tell.
 --   limit-quad, level-quad : what is not a triangle has the limits of quads
---   each-inside, inside-each : coordinates that are all within a limit are not beyond it, and the other way round
 --   tested        : a test against one limit is one against an equal limit
---   accepted-each : an accepted element has its coordinates within its limit
+--   listed-inside, accepted-inside : an accepted element has its coordinates within its limit, as they stand or from the first node
 -- Assumes nothing.
-use mathlib.Core.Path.{_≡_, refl, subst}
+use mathlib.Core.Path.{_≡_, refl, sym, subst, ap, _∙_}
 use mathlib.Core.Bool.{Bool, true, false, cond}
 use mathlib.Core.List.{List}
-use Prim.Native.Nat.{ℕ, _≤_, _<_}
-use native.Mathlib.Nat as N
-use native.Mathlib.Decide.{decLe}
+use Prim.Native.Nat.{ℕ, _*_}
+use native.Mathlib.Decide.{ℕ-discrete}
 use borrow.Author.Tests.{ne-eqb}
 use lib.Dec.{eqb}
-use lib.IntN.{ℤ, natAbs}
+use lib.IntN.{ℤ}
 use lib.ListN.{length}
-use Rattle.algebra.specs.Within.{Each}
-use Rattle.algebra.proofs.Within.{each-of}
-use Rattle.element.specs.Kinds.{eight, nine, kindOf, coordinateLimit, greatestLevel}
-use Rattle.element.specs.Control.{at}
-use Rattle.element.specs.Refusals.{Accepted, Beyond, boundsCodes}
+use Rattle.element.specs.Kinds.{eight, nine, kindOf, NotKind, coordinateLimit, greatestLevel}
+use Rattle.element.specs.Origin.{Inside}
+use Rattle.element.specs.Refusals.{no-more, Accepted, WrongLength, Astray, elementCodes, boundsCodes}
+use Rattle.element.proofs.Origin.{node-count}
+use Rattle.element.proofs.Ranges.{inside-ranged}
 
 pub limit-quad : (n : ℕ) → ¬ (n ≡ 6) → 2048 ≡ coordinateLimit (kindOf n)
 limit-quad n h = rw (ne-eqb n 6 h) (either (eqb n 8))
@@ -34,19 +32,24 @@ level-quad n h = rw (ne-eqb n 6 h) (either (eqb n 8))
     either true = refl
     either false = refl
 
-pub each-inside : {n : ℕ} {xs : List ℤ} → Each n xs → ¬ Beyond n xs
-each-inside p (i, h, l) = N.not-le-of-lt l (p .at i .size)
+pub tested : {b : Bool} {m n : ℕ} (xs : List ℤ) → m ≡ n → (b ≡ true → ¬ Astray m xs) × (b ≡ false → Astray m xs)
+    → (b ≡ true → ¬ Astray n xs) × (b ≡ false → Astray n xs)
+tested xs e t = ((λ h. subst (λ (n : ℕ). ¬ Astray n xs) e (t .0 h)), λ h. subst (λ (n : ℕ). Astray n xs) e (t .1 h))
 
-pub tested : {b : Bool} {m n : ℕ} {xs : List ℤ} → m ≡ n → (b ≡ true → Each m xs) × (b ≡ false → Beyond m xs)
-    → (b ≡ true → ¬ Beyond n xs) × (b ≡ false → Beyond n xs)
-tested {xs = xs} e t = ((λ h. each-inside (subst (λ (n : ℕ). Each n xs) e (t .0 h))), λ h. subst (λ (n : ℕ). Beyond n xs) e (t .1 h))
-
-pub inside-each : {n : ℕ} {xs : List ℤ} → ¬ Beyond n xs → Each n xs
-inside-each {n} {xs} f = each-of (λ k h. record { size = go k h (decLe (natAbs (at xs k)) n) })
+-- ---- an accepted element
+pub long-of : (n : ℕ) (xs : List ℤ) → ¬ WrongLength n xs → length xs ≡ 2 * n
+long-of n xs f = go (ℕ-discrete (length xs) (2 * n))
   where
-    go : (k : ℕ) → k < length xs → Dec (natAbs (at xs k) ≤ n) → natAbs (at xs k) ≤ n
-    go k h (yes l) = l
-    go k h (no l) = absurd (f (k, h, N.lt-of-not-le l))
+    go : Dec (length xs ≡ 2 * n) → length xs ≡ 2 * n
+    go (yes e) = e
+    go (no e) = absurd (f e)
 
-pub accepted-each : (n : ℕ) (xs : List ℤ) → Accepted (boundsCodes n xs) → Each (coordinateLimit (kindOf n)) xs
-accepted-each n xs a = inside-each (a .1 .1 .0)
+pub listed-inside : (n : ℕ) (xs : List ℤ) → ¬ NotKind n → Accepted (elementCodes n xs no-more) → Inside (kindOf n) xs
+listed-inside n xs f (g, (h, none)) =
+    record {
+      long = long-of n xs g ∙ ap (λ m. 2 * m) (sym (node-count n f));
+      range = inside-ranged (coordinateLimit (kindOf n)) xs h;
+    }
+
+pub accepted-inside : (n : ℕ) (xs : List ℤ) → Accepted (boundsCodes n xs) → Inside (kindOf n) xs
+accepted-inside n xs (f, a) = listed-inside n xs f a

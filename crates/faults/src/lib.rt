@@ -1,5 +1,5 @@
 // The faults of an element that the calls test: its kind (1), its level limit (2), the length of its coordinate list (3), its limit (4).
-use points::within;
+use points::ranged;
 ghost use mathlib.Core.Path.{_≡_};
 ghost use mathlib.Core.Bool.{true, false};
 ghost use Rattle.element.specs.Kinds.{NotKind, kindOf, greatestLevel};
@@ -19,15 +19,15 @@ pub fn known(kind: u8) -> bool
     kind == 9
 }
 
-// Whether all coordinates are within the limit of the kind. Each limit stands in a call, so that none is looked up for a coordinate.
+// Whether all coordinates are within the limit of the kind, as they stand or from the first node. Each limit stands in a call, so that none is looked up for a coordinate.
 pub fn inside(kind: u8, coords: &[i32]) -> bool
     ensures yes { λ r. ⌜ (r ≡ true → ¬ Outside (kindOf kind) (now (coords .entry))) ⌝ }
     ensures no { λ r. ⌜ (r ≡ false → Outside (kindOf kind) (now (coords .entry))) ⌝ }
 {
     if kind == 6 {
-        return within(coords, 65536);
+        return ranged(coords, 65536);
     }
-    within(coords, 2048)
+    ranged(coords, 2048)
 }
 
 // The greatest level of the kind.

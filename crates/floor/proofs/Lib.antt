@@ -2,6 +2,7 @@
 pub mod Codes
 pub mod Values
 pub mod Levels
+pub mod Still
 pub mod Floors
 pub mod Room
 pub mod Parts

@@ -1,7 +1,8 @@
 -- What an accepted call of `floor_verdict` tells, and the tests that the code makes.
 --   not-above      : what is at most n is not above it
 --   percent        : a percentage
---   small          : the coordinates of a triangle without a fault of its list are within their limit
+--   small          : the coordinates of a triangle without a fault of its list are within their limit, as they stand or from the first node
+--   six-of         : the kind that is not another
 --   Parts, accepted-parts : what an accepted call tells
 --   accepted-lower, accepted-plain : it is accepted with a lower floor, and by `verdict`
 --   straight-positive : and S is positive
@@ -17,12 +18,12 @@ use native.Mathlib.Omega.{arith}
 use lib.Dec.{T}
 use lib.IntN.{ℤ, pos}
 use lib.Signed.{_≤ℤ_, _<ℤ_, leZ, leZ-yes}
-use Rattle.algebra.specs.Within.{Each}
 use Rattle.algebra.proofs.Truth.{true-T, T-false}
 use Rattle.algebra.proofs.Order.{<-cases}
-use Rattle.element.specs.Kinds.{kindOf}
+use Rattle.element.specs.Kinds.{six, kindOf}
+use Rattle.element.specs.Origin.{Inside}
 use Rattle.element.specs.Refusals.{no-more, Accepted, AboveLevel, elementCodes, verdictCodes}
-use Rattle.faults.proofs.Limits.{inside-each}
+use Rattle.faults.proofs.Limits.{listed-inside}
 use Rattle.floor.specs.Floor.{straight}
 use Rattle.floor.specs.Calls.{NoPercent, floorCodes}
 
@@ -33,16 +34,16 @@ pub percent : (p : ℕ) → ¬ (p < 1) → ¬ (99 < p) → ¬ NoPercent p
 percent p f g (inl h) = f h
 percent p f g (inr h) = g h
 
-pub small : (n : ℕ) (xs : List ℤ) → n ≡ 6 → Accepted (elementCodes n xs no-more) → Each 65536 xs
-small n xs e (f, (g, u)) = inside-each (rw e at g)
+pub small : (n : ℕ) (xs : List ℤ) → n ≡ 6 → Accepted (elementCodes n xs no-more) → Inside six xs
+small n xs e a = subst (λ m. Inside (kindOf m) xs) e (listed-inside n xs (λ f. f .0 e) a)
 
 pub record Parts (n l : ℕ) (xs : List ℤ) (p : ℕ) : Type 0 where
   pub kind : n ≡ 6
   pub limit : l ≤ 7
   pub share : p ≤ 99
-  pub small : Each 65536 xs
+  pub small : Inside six xs
 
-six-of : (n : ℕ) → ¬ ¬ (n ≡ 6) → n ≡ 6
+pub six-of : (n : ℕ) → ¬ ¬ (n ≡ 6) → n ≡ 6
 six-of n f =
     N.le-antisymm (N.le-of-suc-le-suc (N.lt-of-not-le (λ h. f (λ e. omega arith)))) (N.le-of-suc-le-suc (N.lt-of-not-le (λ h. f (λ e. omega arith))))
 

@@ -5,9 +5,10 @@
 --   values-room    : the values and 2·p·S have room to be shifted
 --   floor-room     : and then for seven cuts, so no sum leaves i64 up to level 7
 -- Assumes nothing.
-use mathlib.Core.Path.{_≡_, refl, sym, subst}
+use mathlib.Core.Path.{_≡_, refl, sym, subst, _∙_}
 use mathlib.Core.List.{List}
 use mathlib.Core.Bool.{true}
+use mathlib.Core.Logic.{inl, inr}
 use Prim.Native.Nat.{ℕ, _≤_}
 use lib.Dec.{lit≤}
 use lib.IntN.{ℤ, pos, _-ℤ_, _*ℤ_}
@@ -16,7 +17,9 @@ use Rattle.algebra.proofs.Within.{within-pos, within--, within-*, within-≤, e
 use Rattle.algebra.proofs.Fill.{length-listTo, getD-listTo}
 use Rattle.element.specs.Kinds.{six}
 use Rattle.element.specs.Control.{at, values6, controlValues}
+use Rattle.element.specs.Origin.{fromFirst, Ranged, Inside}
 use Rattle.element.proofs.Sizes.{values-size}
+use Rattle.element.proofs.Origin.{inside-first}
 use Rattle.points.specs.Points.{Nine, coordinates, across}
 use Rattle.points.proofs.Points.{coordinates-nine}
 use Rattle.walks.specs.Room.{cap}
@@ -24,21 +27,33 @@ use Rattle.triangle_walk.specs.Walks as walks
 use Rattle.triangle_walk.proofs.Places.{room-of}
 use Rattle.floor.specs.Floor.{straight, share, shifted}
 use Rattle.floor.specs.Steps.{shiftedBy, Room}
+use Rattle.floor.proofs.Still.{straight-moved}
 
-pub straight-is : (xs : List ℤ) → across (coordinates xs 9 0) (coordinates xs 9 1) 0 1 0 2 ≡ straight xs
+formula : (xs : List ℤ) → across (coordinates xs 9 0) (coordinates xs 9 1) 0 1 0 2 ≡ straight xs
 unfolding straight
-straight-is xs = refl
+formula xs = refl
 
-pub straight-small : {xs : List ℤ} → Each 65536 xs → Within 34359738368 (straight xs)
+pub straight-is : (xs : List ℤ) → Inside six xs
+    → across (coordinates (fromFirst xs) 9 0) (coordinates (fromFirst xs) 9 1) 0 1 0 2 ≡ straight xs
+straight-is xs p = formula (fromFirst xs) ∙ straight-moved (at xs 0) (at xs 1) xs (p .long)
+
+near-small : {xs : List ℤ} → Each 65536 xs → Within 34359738368 (straight xs)
 unfolding straight
-straight-small p =
+near-small p =
     within-- (within-* (within-- (p .at 2) (p .at 0)) (within-- (p .at 5) (p .at 1)))
     (within-* (within-- (p .at 3) (p .at 1)) (within-- (p .at 4) (p .at 0)))
 
-pub nine-wide : {xs : List ℤ} → Each 65536 xs → (a : ℕ) → Nine 393216 (coordinates xs 9 a)
-nine-wide p a = let q = coordinates-nine p 9 a in record { long = q .long; each = each-≤ (q .each) (lit≤ tt) }
+pub straight-small : {xs : List ℤ} → Inside six xs → Within 34359738368 (straight xs)
+straight-small {xs} p = go (p .range)
+  where
+    go : Ranged 65536 xs → Within 34359738368 (straight xs)
+    go (inl h) = near-small h
+    go (inr h) = subst (Within 34359738368) (straight-moved (at xs 0) (at xs 1) xs (p .long)) (near-small h)
 
-pub share-small : {xs : List ℤ} (p : ℕ) → p ≤ 99 → Each 65536 xs → Within 6803228196864 (pos 2 *ℤ share p xs)
+pub nine-wide : {xs : List ℤ} → Inside six xs → (a : ℕ) → Nine 786432 (coordinates (fromFirst xs) 9 a)
+nine-wide p a = let q = coordinates-nine (inside-first p) 9 a in record { long = q .long; each = each-≤ (q .each) (lit≤ tt) }
+
+pub share-small : {xs : List ℤ} (p : ℕ) → p ≤ 99 → Inside six xs → Within 6803228196864 (pos 2 *ℤ share p xs)
 share-small p h e = within-* (within-pos 2) (within-* (within-≤ (within-pos p) h) (straight-small e))
 
 -- the six values, one by one
@@ -47,7 +62,7 @@ unfolding controlValues values6
 shifted-is p xs = refl
 
 pub values-room : {xs c : List ℤ} {less : ℤ} (p : ℕ) → p ≤ 99
-    → Each 65536 xs
+    → Inside six xs
     → c ≡ values6 xs
     → less ≡ pos 2 *ℤ share p xs
     → Room c less

@@ -10,8 +10,8 @@ use verdict::verdict;
 ghost use mathlib.Core.Path.{_≡_};
 ghost use Prim.Native.Nat.{_≤_};
 ghost use lib.IntN.{pos, _*ℤ_};
-ghost use Rattle.algebra.specs.Within.{Each};
 ghost use Rattle.element.specs.Kinds.{six};
+ghost use Rattle.element.specs.Origin.{Inside};
 ghost use Rattle.element.specs.Refusals.{Coded};
 ghost use Rattle.walks.specs.Elements.{walkOf};
 ghost use Rattle.floor.specs.Floor as floor;
@@ -26,7 +26,7 @@ pub enum Profile {
 
 // S, the determinant of A1-A0 and A2-A0.
 fn straight(coords: &[i32]) -> i64
-    requires { ⌜ Each 65536 (now coords) ⌝ }
+    requires { ⌜ Inside six (now coords) ⌝ }
     ensures { λ r. ⌜ r ≡ floor.straight (now (coords .entry)) ⌝ }
 {
     let x = coordinates(coords, 9, 0);
@@ -36,7 +36,7 @@ fn straight(coords: &[i32]) -> i64
 
 // 2·p·S.
 fn twice_share(coords: &[i32], p: u8) -> i64
-    requires { ⌜ (p ≤ 99) × Each 65536 (now coords) ⌝ }
+    requires { ⌜ (p ≤ 99) × Inside six (now coords) ⌝ }
     ensures { λ r. ⌜ r ≡ pos 2 *ℤ floor.share p (now (coords .entry)) ⌝ }
 {
     2 * (p as i64 * straight(coords))
@@ -58,7 +58,7 @@ fn shifted(c: [i64; 6], less: i64) -> [i64; 6]
 
 // The walk over the shifted values.
 fn walk_floor(coords: &[i32], p: u8, limit: u32) -> Walk
-    requires { ⌜ (limit ≤ 7) × (p ≤ 99) × Each 65536 (now coords) ⌝ }
+    requires { ⌜ (limit ≤ 7) × (p ≤ 99) × Inside six (now coords) ⌝ }
     ensures { λ r. ⌜ r ≡ walkOf six limit (floor.shifted p (now (coords .entry))) ⌝ }
 {
     let less = twice_share(coords, p);

@@ -30,8 +30,7 @@ fn id_at(t: &[u8], at: usize) -> u32
     number_at(t, at) as u32
 }
 
-// Tries the element of ours in the row at a place, and writes its record behind those that were taken; a coordinate beyond i32 is
-// tried as the nearest of i32.
+// Tries the element of ours in the row at a place, and writes its record behind those that were taken.
 fn take_ours(
     t: &[u8],
     numbers: &[u64],

@@ -1,4 +1,4 @@
--- The coordinates of an element's row, where one beyond i32 is read as the nearest of i32 (docs/GMSH.md, G22).
+-- The coordinates of an element's row, where one beyond a size is read as one of that size (docs/GMSH.md, G22).
 --   coords-clip    : they are clipped; what that comes to is said in batch/proofs/Clip
 -- Assumes nothing.
 use mathlib.Core.List.{List}

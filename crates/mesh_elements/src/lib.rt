@@ -37,29 +37,29 @@ fn gmsh_place(kind: u64, k: usize) -> usize
 }
 
 // The x of the node in the row at a place.
-fn x_at(t: &[u8], at: usize) -> i32
-    ensures { λ r. ⌜ r ≡ clipped 2147483647 (word (line (drop at (now (t .entry)))) 1) ⌝ }
+fn x_at(t: &[u8], at: usize) -> i64
+    ensures { λ r. ⌜ r ≡ clipped 4294967295 (word (line (drop at (now (t .entry)))) 1) ⌝ }
 {
     value(first(rest(from(t, at))))
 }
 
 // Its y.
-fn y_at(t: &[u8], at: usize) -> i32
-    ensures { λ r. ⌜ r ≡ clipped 2147483647 (word (line (drop at (now (t .entry)))) 2) ⌝ }
+fn y_at(t: &[u8], at: usize) -> i64
+    ensures { λ r. ⌜ r ≡ clipped 4294967295 (word (line (drop at (now (t .entry)))) 2) ⌝ }
 {
     value(first(rest(rest(from(t, at)))))
 }
 
-// The coordinates of the element in the row at a place, in our order; those beyond i32 are the nearest of i32.
-pub fn coords_at(t: &[u8], numbers: &[u64], places: &[usize], at: usize) -> [i32; 18]
+// The coordinates of the element in the row at a place, in our order; those beyond 2^32 - 1 in size are of that size.
+pub fn coords_at(t: &[u8], numbers: &[u64], places: &[usize], at: usize) -> [i64; 18]
     requires seats { ⌜ Seats (now t) (now places) ⌝ }
     requires once { ⌜ ¬ Repeats (map idOf (nodesIn (now t))) ⌝ }
-    ensures { λ r. ⌜ take (2 * sizeOfType (typeOf (line (drop at (now (t .entry)))))) r ≡ coordsOf (clipped 2147483647) (nodesIn (now (t .entry))) (line (drop at (now (t .entry)))) ⌝ }
+    ensures { λ r. ⌜ take (2 * sizeOfType (typeOf (line (drop at (now (t .entry)))))) r ≡ coordsOf (clipped 4294967295) (nodesIn (now (t .entry))) (line (drop at (now (t .entry)))) ⌝ }
 {
     let kind = type_at(t, at);
     let size = size_of(kind);
     let names = nine_at(t, at);
-    let mut out = [0i32; 18];
+    let mut out = [0i64; 18];
     let mut k: usize = 0;
     while k < size {
         let j = gmsh_place(kind, k);

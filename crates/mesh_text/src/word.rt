@@ -169,11 +169,11 @@ pub fn is_whole(w: &[u8]) -> bool
     (0 < d) & p
 }
 
-// The first digits of a word behind its sign as a number, 2^31 - 1 where it is above that.
+// The first digits of a word behind its sign as a number, 2^32 - 1 where it is above that.
 fn size(w: &[u8]) -> u64
-    ensures { λ r. ⌜ r ≡ min 2147483647 (sizeOf (now (w .entry))) ⌝ }
+    ensures { λ r. ⌜ r ≡ min 4294967295 (sizeOf (now (w .entry))) ⌝ }
 {
-    reads_to(front(unsign(w), Class::Digit), 2147483647)
+    reads_to(front(unsign(w), Class::Digit), 4294967295)
 }
 
 // Whether a word starts with a minus.
@@ -186,11 +186,11 @@ fn is_minus(w: &[u8]) -> bool
     w[0] == 45
 }
 
-// The whole number that a whole coordinate is, the nearest of i32 where it is beyond that.
-pub fn value(w: &[u8]) -> i32
-    ensures { λ r. ⌜ r ≡ clipped 2147483647 (now (w .entry)) ⌝ }
+// The whole number that a whole coordinate is, up to 2^32 - 1 in size and that where it is larger: every i32 as it is, and none else as one.
+pub fn value(w: &[u8]) -> i64
+    ensures { λ r. ⌜ r ≡ clipped 4294967295 (now (w .entry)) ⌝ }
 {
-    let n = size(w) as i32;
+    let n = size(w) as i64;
     if is_minus(w) {
         return 0 - n;
     }

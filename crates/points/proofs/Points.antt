@@ -1,7 +1,7 @@
 -- How large coordinates, differences and determinants are.
 --   place-≤          : places are not later than the nodes
 --   coordinates-nine : the coordinates along one axis
---   step-small, across-small : of points within 393216
+--   step-small, across-small : of points within 786432
 -- Assumes nothing.
 use mathlib.Core.List.{List}
 use Prim.Native.Nat.{ℕ, _+_, _*_, _-_, _≤_}
@@ -25,10 +25,10 @@ coordinates-nine {n} {xs} p g a =
       each = each-of (λ k h. rw (getD-listTo 9 (λ k. at xs (2 * place g k + a)) k h) (p .at (2 * place g k + a)));
     }
 
-pub step-small : {l : List ℤ} → Nine 393216 l → (a b : ℕ) → Within 786432 (step l a b)
+pub step-small : {l : List ℤ} → Nine 786432 l → (a b : ℕ) → Within 1572864 (step l a b)
 step-small p a b = within-- (p .each .at b) (p .each .at a)
 
 -- twice the square of that
-pub across-small : {u v : List ℤ} → Nine 393216 u → Nine 393216 v → (a b c d : ℕ) → Within 1236950581248 (across u v a b c d)
+pub across-small : {u v : List ℤ} → Nine 786432 u → Nine 786432 v → (a b c d : ℕ) → Within 4947802324992 (across u v a b c d)
 across-small p q a b c d =
     within-- (within-* (step-small p a b) (step-small q c d)) (within-* (step-small q a b) (step-small p c d))

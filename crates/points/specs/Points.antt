@@ -1,5 +1,6 @@
 -- Numbers of the nodes, and of the control points, along one coordinate, as the code keeps them.
 --   Nine n l         == l has nine numbers, each within n
+--   less xs k z      == the number at place k minus z; past the end stands 0
 --   place g k        == the place of node k among nodes with a gap: from g on, nodes stand one earlier
 --   coordinates xs g a == the coordinates of nine nodes along x (a = 0) or y (a = 1)
 --   step p a b       == the difference from the point a to the point b, along one coordinate
@@ -11,7 +12,7 @@ use mathlib.Core.Bool.{cond}
 use mathlib.Core.List.{List}
 use Prim.Native.Nat.{ℕ, _+_, _*_, _-_}
 use lib.Dec.{ltb}
-use lib.IntN.{ℤ, _-ℤ_}
+use lib.IntN.{ℤ, pos, _-ℤ_}
 use lib.ListN.{length}
 use Rattle.algebra.specs.Within.{Each}
 use Rattle.algebra.specs.Fill.{listTo}
@@ -21,6 +22,9 @@ use Rattle.element.specs.Control.{at}
 pub record Nine (n : ℕ) (l : List ℤ) : Type 0 where
   pub long : length l ≡ 9
   pub each : Each n l
+
+abbrev pub less : List ℤ → ℕ → ℤ → ℤ
+less xs k z = cond (ltb k (length xs)) (at xs k -ℤ z) (pos 0)
 
 abbrev pub place : ℕ → ℕ → ℕ
 place g k = cond (ltb k g) k (k - 1)

@@ -1,23 +1,48 @@
-// Coordinates as numbers of 64 bits, the test against a limit, and determinants of differences.
+// Coordinates as numbers of 64 bits, from the first node, the tests against a limit, and determinants of differences.
 ghost use mathlib.Core.Path.{_≡_};
 ghost use mathlib.Core.Bool.{true, false};
 ghost use mathlib.Core.List.{[], _∷_};
 ghost use Prim.Native.Nat.{_<_};
 ghost use lib.IntN.{_-ℤ_, _*ℤ_};
 ghost use lib.ListN.{length};
-ghost use Rattle.algebra.specs.Within.{Each};
+ghost use Rattle.algebra.specs.Within.{Within, Each};
 ghost use Rattle.element.specs.Control.{at};
-ghost use Rattle.element.specs.Refusals.{Beyond};
+ghost use Rattle.element.specs.Origin.{fromFirst, Held, Unheld};
+ghost use Rattle.element.specs.Refusals.{Beyond, Astray};
 ghost use Rattle.points.specs.Points as spec;
 
 // The coordinate at place k; past the end stands 0.
 pub fn coord(xs: &[i32], k: usize) -> i64
-    ensures { λ r. ⌜ r ≡ at (now (xs .entry)) k ⌝ }
+    ensures value { λ r. ⌜ r ≡ at (now (xs .entry)) k ⌝ }
+    ensures small { λ r. ⌜ Within 2147483648 r ⌝ }
+    ensures held { λ r. ⌜ Held (at (now (xs .entry)) k) ⌝ }
 {
     if k < xs.len() {
         return xs[k] as i64;
     }
     0
+}
+
+// The coordinate at place k minus a number, which takes 33 bits; past the end stands 0.
+fn less(xs: &[i32], k: usize, from: i64) -> i64
+    requires { ⌜ Within 2147483648 from ⌝ }
+    ensures value { λ r. ⌜ r ≡ spec.less (now (xs .entry)) k from ⌝ }
+    ensures held { λ r. ⌜ Held (at (now (xs .entry)) k) ⌝ }
+    ensures size { λ r. ⌜ Within 4294967296 r ⌝ }
+{
+    if k < xs.len() {
+        return xs[k] as i64 - from;
+    }
+    0
+}
+
+// The coordinate at place k minus the first node's along its axis.
+fn difference(xs: &[i32], k: usize) -> i64
+    ensures value { λ r. ⌜ r ≡ at (fromFirst (now (xs .entry))) k ⌝ }
+    ensures held { λ r. ⌜ Held (at (now (xs .entry)) k) ⌝ }
+{
+    let first: [usize; 2] = [0, 1];
+    less(xs, k, coord(xs, first[k % 2]))
 }
 
 // The place in the list of node k: from the gap on, nodes stand one earlier.
@@ -31,16 +56,17 @@ fn place(gap: usize, k: usize) -> usize
     k - 1
 }
 
-// The first or the second coordinates of nine nodes.
+// The first or the second coordinates of nine nodes, from the first one.
 pub fn coordinates(xs: &[i32], gap: usize, axis: usize) -> [i64; 9]
     requires { ⌜ (0 < gap) × (axis < 2) ⌝ }
-    ensures { λ r. ⌜ r ≡ spec.coordinates (now (xs .entry)) gap axis ⌝ }
+    ensures { λ r. ⌜ r ≡ spec.coordinates (fromFirst (now (xs .entry))) gap axis ⌝ }
 {
+    let from = coord(xs, axis);
     let mut c = [0; 9];
     let mut k = 0;
     while k < 9 {
         let at = place(gap, k);
-        c[k] = coord(xs, 2 * at + axis);
+        c[k] = less(xs, 2 * at + axis, from);
         k += 1;
     }
     c
@@ -64,6 +90,36 @@ pub fn within(xs: &[i32], limit: u32) -> bool
     all
 }
 
+// The same of each node's difference from the first node.
+fn near(xs: &[i32], limit: u32) -> bool
+    ensures yes { λ r. ⌜ (r ≡ true → Each limit (fromFirst (now (xs .entry)))) ⌝ }
+    ensures no { λ r. ⌜ (r ≡ false → Beyond limit (fromFirst (now (xs .entry)))) ⌝ }
+    ensures held { λ r. ⌜ ¬ Unheld (now (xs .entry)) ⌝ }
+{
+    let most = limit as i64;
+    let least = 0 - most;
+    let mut close = true;
+    let mut i = 0;
+    while i < xs.len() {
+        let d = difference(xs, i);
+        close = close & (d <= most) & (least <= d);
+        i += 1;
+    }
+    close
+}
+
+// Whether all coordinates are within the limit, as they stand or from the first node.
+pub fn ranged(xs: &[i32], limit: u32) -> bool
+    requires { ⌜ limit < 2147483648 ⌝ }
+    ensures yes { λ r. ⌜ (r ≡ true → ¬ Astray limit (now (xs .entry))) ⌝ }
+    ensures no { λ r. ⌜ (r ≡ false → Astray limit (now (xs .entry))) ⌝ }
+{
+    if within(xs, limit) {
+        return true;
+    }
+    near(xs, limit)
+}
+
 // The number at place k; past the end stands 0.
 pub fn pick(p: &[i64; 9], k: usize) -> i64
     requires { ⌜ length (now p) ≡ 9 ⌝ }
@@ -77,7 +133,7 @@ pub fn pick(p: &[i64; 9], k: usize) -> i64
 
 // The difference from the point a to the point b, along one coordinate.
 pub fn step(p: &[i64; 9], a: usize, b: usize) -> i64
-    requires { ⌜ spec.Nine 393216 (now p) ⌝ }
+    requires { ⌜ spec.Nine 786432 (now p) ⌝ }
     ensures { λ r. ⌜ r ≡ spec.step (now (p .entry)) a b ⌝ }
 {
     pick(p, b) - pick(p, a)
@@ -85,7 +141,7 @@ pub fn step(p: &[i64; 9], a: usize, b: usize) -> i64
 
 // The determinant of two vectors, (a, b) and (c, d).
 pub fn det(a: i64, b: i64, c: i64, d: i64) -> i64
-    requires { ⌜ Each 786432 (a ∷ b ∷ c ∷ d ∷ []) ⌝ }
+    requires { ⌜ Each 1572864 (a ∷ b ∷ c ∷ d ∷ []) ⌝ }
     ensures { λ r. ⌜ r ≡ a *ℤ d -ℤ b *ℤ c ⌝ }
 {
     a * d - b * c
@@ -93,8 +149,8 @@ pub fn det(a: i64, b: i64, c: i64, d: i64) -> i64
 
 // The determinant of the differences from a to b and from c to d, of the points with the coordinates x and y.
 pub fn across(x: &[i64; 9], y: &[i64; 9], a: usize, b: usize, c: usize, d: usize) -> i64
-    requires first { ⌜ spec.Nine 393216 (now x) ⌝ }
-    requires second { ⌜ spec.Nine 393216 (now y) ⌝ }
+    requires first { ⌜ spec.Nine 786432 (now x) ⌝ }
+    requires second { ⌜ spec.Nine 786432 (now y) ⌝ }
     ensures { λ r. ⌜ r ≡ spec.across (now (x .entry)) (now (y .entry)) a b c d ⌝ }
 {
     det(step(x, a, b), step(y, a, b), step(x, c, d), step(y, c, d))

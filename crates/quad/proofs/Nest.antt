@@ -5,7 +5,7 @@
 --   so-far-store : a turn adds its term at its home, and leaves the other sums
 --   so-far-j1, so-far-i2, so-far-i1 : the end of a loop is a turn of the loop around it
 --   so-far-whole : all turns make the sums of relation 27
---   so-far-small : of points within 393216
+--   so-far-small : of points within 786432
 -- Assumes nothing.
 use mathlib.Core.Path.{_≡_, refl, sym, _∙_, ap, ap₂, fun-ext}
 use mathlib.Core.List.{List}
@@ -130,30 +130,30 @@ module _ (R : ℕ → ℕ → Vec) where
           ∙ added-turn i1 i2 j1 j2 k
 
 -- ---- sizes: two, six and eighteen terms inside the loops, and at most 62 in all four parts
-module _ {u v : List ℤ} (p : Nine 393216 u) (q : Nine 393216 v) where
+module _ {u v : List ℤ} (p : Nine 786432 u) (q : Nine 786432 v) where
   abbrev R : ℕ → ℕ → Vec
   R = grid u v
 
-  share-small : (k i1 i2 j1 j2 : ℕ) → Within 4947802324992 (share R k i1 i2 j1 j2)
+  share-small : (k i1 i2 j1 j2 : ℕ) → Within 19791209299968 (share R k i1 i2 j1 j2)
   share-small k i1 i2 j1 j2 = term-small p q (k % 4) (k / 4) i1 i2 j1 j2
 
-  over-j2-small : (k i1 i2 j1 : ℕ) → Within 9895604649984 (over-j2 R k i1 i2 j1)
+  over-j2-small : (k i1 i2 j1 : ℕ) → Within 39582418599936 (over-j2 R k i1 i2 j1)
   over-j2-small k i1 i2 j1 = sum-size (share R k i1 i2 j1) (share-small k i1 i2 j1) 2
 
-  over-j1-small : (k i1 i2 : ℕ) → Within 29686813949952 (over-j1 R k i1 i2)
+  over-j1-small : (k i1 i2 : ℕ) → Within 118747255799808 (over-j1 R k i1 i2)
   over-j1-small k i1 i2 = sum-size (over-j2 R k i1 i2) (over-j2-small k i1 i2) 3
 
-  over-i2-small : (k i1 : ℕ) → Within 89060441849856 (over-i2 R k i1)
+  over-i2-small : (k i1 : ℕ) → Within 356241767399424 (over-i2 R k i1)
   over-i2-small k i1 = sum-size (over-j1 R k i1) (over-j1-small k i1) 3
 
-  added-small : (i1 i2 j1 j2 k : ℕ) → i1 ≤ 2 → i2 ≤ 3 → j1 ≤ 3 → j2 ≤ 2 → Within 306763744149504 (added R i1 i2 j1 j2 k)
+  added-small : (i1 i2 j1 j2 k : ℕ) → i1 ≤ 2 → i2 ≤ 3 → j1 ≤ 3 → j2 ≤ 2 → Within 1227054976598016 (added R i1 i2 j1 j2 k)
   unfolding added
   added-small i1 i2 j1 j2 k a b c d =
       within-+ (within-+ (within-+ (within-+ (within-pos 0) (sum-small 2 (over-i2 R k) (over-i2-small k) a))
       (sum-small 3 (over-j1 R k i1) (over-j1-small k i1) b)) (sum-small 3 (over-j2 R k i1 i2) (over-j2-small k i1 i2) c))
       (sum-small 2 (share R k i1 i2 j1) (share-small k i1 i2 j1) d)
 
-  pub so-far-small : (i1 i2 j1 j2 : ℕ) → i1 ≤ 2 → i2 ≤ 3 → j1 ≤ 3 → j2 ≤ 2 → Each 306763744149504 (so-far (grid u v) i1 i2 j1 j2)
+  pub so-far-small : (i1 i2 j1 j2 : ℕ) → i1 ≤ 2 → i2 ≤ 3 → j1 ≤ 3 → j2 ≤ 2 → Each 1227054976598016 (so-far (grid u v) i1 i2 j1 j2)
   unfolding so-far
   so-far-small i1 i2 j1 j2 a b c d =
       each-of (λ k h. let l : k < 16 = rw (length-listTo 16 (added R i1 i2 j1 j2)) at h in

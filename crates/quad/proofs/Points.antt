@@ -1,6 +1,7 @@
 -- The control points of a quad are small.
 --   gap-pos : the gap is not at the first node
---   edge-small, four-small, centre-small, points9-nine : of nodes within 2048
+--   quad-first : differences from the first node are within twice the limit
+--   edge-small, four-small, centre-small, points9-nine : of nodes within 4096
 -- Assumes nothing.
 use mathlib.Core.Path.{_≡_, refl}
 use mathlib.Core.Bool.{Bool, true, false}
@@ -8,31 +9,37 @@ use mathlib.Core.List.{List}
 use Prim.Native.Nat.{ℕ, _<_}
 use lib.Dec.{lit≤, lit<}
 use lib.IntN.{ℤ, pos, _*ℤ_}
-use Rattle.algebra.specs.Within.{Within}
+use Rattle.algebra.specs.Within.{Within, Each}
 use Rattle.algebra.proofs.Within.{within-pos, within-+, within--, within-*, within-≤, each-nil, each-cons}
 use Rattle.element.specs.Control.{at}
+use Rattle.element.specs.Origin.{fromFirst, Inside}
+use Rattle.element.proofs.Origin.{inside-first}
 use Rattle.points.specs.Points.{Nine}
-use Rattle.quad.specs.Points.{gap, edge, four, centre, points9}
+use Rattle.quad.specs.Points.{quadKind, gap, edge, four, centre, points9}
 
 pub gap-pos : (b : Bool) → 0 < gap b
 gap-pos true = lit< tt
 gap-pos false = lit< tt
 
-module _ {n : List ℤ} (p : Nine 2048 n) where
-  pub edge-small : (m a b : ℕ) → Within 24576 (edge n m a b)
+pub quad-first : (b : Bool) {xs : List ℤ} → Inside (quadKind b) xs → Each 4096 (fromFirst xs)
+quad-first true p = inside-first p
+quad-first false p = inside-first p
+
+module _ {n : List ℤ} (p : Nine 4096 n) where
+  pub edge-small : (m a b : ℕ) → Within 49152 (edge n m a b)
   edge-small m a b =
       within-- (within-- (within-* (within-pos 8) (p .each .at m)) (within-* (within-pos 2) (p .each .at a))) (within-* (within-pos 2) (p .each .at b))
 
-  pub four-small : (a b c d : ℕ) → Within 8192 (four n a b c d)
+  pub four-small : (a b c d : ℕ) → Within 16384 (four n a b c d)
   four-small a b c d = within-+ (within-+ (within-+ (p .each .at a) (p .each .at b)) (p .each .at c)) (p .each .at d)
 
-  pub centre-small : (b : Bool) → Within 73728 (centre n b)
+  pub centre-small : (b : Bool) → Within 147456 (centre n b)
   centre-small true =
       within-≤ (within-- (within-* (within-pos 4) (four-small 1 3 5 7)) (within-* (within-pos 3) (four-small 0 2 6 8))) (lit≤ tt)
   centre-small false =
       within-+ (within-- (within-* (within-pos 16) (p .each .at 4)) (within-* (within-pos 4) (four-small 1 3 5 7))) (four-small 0 2 6 8)
 
-  pub points9-nine : (b : Bool) → Nine 393216 (points9 n b)
+  pub points9-nine : (b : Bool) → Nine 786432 (points9 n b)
   points9-nine b =
       record {
         long = refl;
@@ -41,8 +48,8 @@ module _ {n : List ℤ} (p : Nine 2048 n) where
             (each-cons (corner 6) (each-cons (side 7 6 8) (each-cons (corner 8) each-nil))))))));
       }
     where
-      corner : (k : ℕ) → Within 393216 (pos 4 *ℤ at n k)
+      corner : (k : ℕ) → Within 786432 (pos 4 *ℤ at n k)
       corner k = within-≤ (within-* (within-pos 4) (p .each .at k)) (lit≤ tt)
 
-      side : (m a b : ℕ) → Within 393216 (edge n m a b)
+      side : (m a b : ℕ) → Within 786432 (edge n m a b)
       side m a b = within-≤ (edge-small m a b) (lit≤ tt)

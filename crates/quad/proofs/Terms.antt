@@ -2,7 +2,7 @@
 --   place-column, place-row : the sum (I, J) stands at I + 4J
 --   term-here      : a term, at its own sum
 --   term-elsewhere : and nothing at any other
---   vector-small   : the code's vector between two points within 393216
+--   vector-small   : the code's vector between two points within 786432
 --   term-small     : a term of such points
 -- Assumes nothing.
 use mathlib.Core.Path.{_≡_, refl, ap}
@@ -45,16 +45,16 @@ module _ (R : ℕ → ℕ → Vec) (i1 i2 j1 j2 : ℕ) where
       (λ t. refl)
 
 -- twice as large
-pub vector-small : {u v : List ℤ} → Nine 393216 u → Nine 393216 v
+pub vector-small : {u v : List ℤ} → Nine 786432 u → Nine 786432 v
     → (a b : ℕ) {r : Vector} → vec r ≡ point u v b -ᵥ point u v a
-    → Within 786432 (r .x) × Within 786432 (r .y)
+    → Within 1572864 (r .x) × Within 1572864 (r .y)
 vector-small p q a b e = (rw (ap (λ (w : Vec). w .x) e) (step-small p a b), rw (ap (λ (w : Vec). w .y) e) (step-small q a b))
 
 -- four times a determinant of two such vectors
-pub term-small : {u v : List ℤ} → Nine 393216 u → Nine 393216 v
+pub term-small : {u v : List ℤ} → Nine 786432 u → Nine 786432 v
     → (I J i1 i2 j1 j2 : ℕ)
-    → Within 4947802324992 (term (grid u v) I J i1 i2 j1 j2)
+    → Within 19791209299968 (term (grid u v) I J i1 i2 j1 j2)
 term-small p q I J i1 i2 j1 j2 =
-    cond-ind (eqb (i1 + i2) I && eqb (j1 + j2) J) _ _ (Within 4947802324992)
+    cond-ind (eqb (i1 + i2) I && eqb (j1 + j2) J) _ _ (Within 19791209299968)
     (λ t. within-* (choose2-both i2 j1) (across-small p q (i1 + 3 * j1) (i1 + 1 + 3 * j1) (i2 + 3 * j2) (i2 + 3 * (j2 + 1))))
     (λ t. within-≤ (within-pos 0) (lit≤ tt))

@@ -27,14 +27,14 @@ pub record Turn (R : ℕ → ℕ → Vec) (i1 i2 j1 j2 : ℕ) (l : List ℤ) (r 
   pub fits : SFits w64 (stored (home i1 i2 j1 j2) l r)
   pub next : set l (home i1 i2 j1 j2) (toZ w64 (ofZ w64 (stored (home i1 i2 j1 j2) l r))) ≡ so-far R i1 i2 j1 (j2 + 1)
 
-module _ {u v : List ℤ} (p : Nine 393216 u) (q : Nine 393216 v)
+module _ {u v : List ℤ} (p : Nine 786432 u) (q : Nine 786432 v)
     (i1 i2 j1 j2 : ℕ) (a : i1 ≤ 1) (b : i2 ≤ 2) (c : j1 ≤ 2) (d : j2 ≤ 1) {l : List ℤ} {r : ℤ}
     (e : l ≡ so-far (grid u v) i1 i2 j1 j2) (f : r ≡ term (grid u v) (i1 + i2) (j1 + j2) i1 i2 j1 j2) where
   abbrev k : ℕ
   k = home i1 i2 j1 j2
 
   -- the 62 terms of `so-far-small`, and one
-  sum-is : Is 311711546474496 (at (so-far (grid u v) i1 i2 j1 j2) k +ℤ term (grid u v) (i1 + i2) (j1 + j2) i1 i2 j1 j2) (stored k l r)
+  sum-is : Is 1246846185897984 (at (so-far (grid u v) i1 i2 j1 j2) k +ℤ term (grid u v) (i1 + i2) (j1 + j2) i1 i2 j1 j2) (stored k l r)
   sum-is =
       i-add (got (ap (λ m. at m k) e) (so-far-small p q i1 i2 j1 j2 (omega arith) (omega arith) (omega arith) (omega arith) .at k) tt)
       (got f (term-small p q (i1 + i2) (j1 + j2) i1 i2 j1 j2) tt)

@@ -6,8 +6,8 @@ use crate::sum::combine;
 use points::coordinates;
 use points::pick;
 ghost use mathlib.Core.Path.{_≡_};
-ghost use Rattle.algebra.specs.Within.{Each};
 ghost use Rattle.element.specs.Control as control;
+ghost use Rattle.element.specs.Origin.{Inside};
 ghost use Rattle.points.specs.Points.{Nine};
 ghost use Rattle.quad.specs.Points as spec;
 
@@ -23,7 +23,7 @@ fn gap(eight: bool) -> usize
 
 // The fourfold control point of the edge from a to b with the middle m.
 fn edge(n: &[i64; 9], m: usize, a: usize, b: usize) -> i64
-    requires { ⌜ Nine 2048 (now n) ⌝ }
+    requires { ⌜ Nine 4096 (now n) ⌝ }
     ensures { λ r. ⌜ r ≡ spec.edge (now (n .entry)) m a b ⌝ }
 {
     8 * pick(n, m) - 2 * pick(n, a) - 2 * pick(n, b)
@@ -31,7 +31,7 @@ fn edge(n: &[i64; 9], m: usize, a: usize, b: usize) -> i64
 
 // The sum of four nodes.
 fn four(n: &[i64; 9], a: usize, b: usize, c: usize, d: usize) -> i64
-    requires { ⌜ Nine 2048 (now n) ⌝ }
+    requires { ⌜ Nine 4096 (now n) ⌝ }
     ensures { λ r. ⌜ r ≡ spec.four (now (n .entry)) a b c d ⌝ }
 {
     pick(n, a) + pick(n, b) + pick(n, c) + pick(n, d)
@@ -39,7 +39,7 @@ fn four(n: &[i64; 9], a: usize, b: usize, c: usize, d: usize) -> i64
 
 // The fourfold control point 11.
 fn centre(n: &[i64; 9], eight: bool) -> i64
-    requires { ⌜ Nine 2048 (now n) ⌝ }
+    requires { ⌜ Nine 4096 (now n) ⌝ }
     ensures { λ r. ⌜ r ≡ spec.centre (now (n .entry)) eight ⌝ }
 {
     let corners = four(n, 0, 2, 6, 8);
@@ -52,7 +52,7 @@ fn centre(n: &[i64; 9], eight: bool) -> i64
 
 // The fourfold control points, along one coordinate.
 fn points9(n: &[i64; 9], eight: bool) -> [i64; 9]
-    requires { ⌜ Nine 2048 (now n) ⌝ }
+    requires { ⌜ Nine 4096 (now n) ⌝ }
     ensures { λ r. ⌜ r ≡ spec.points9 (now (n .entry)) eight ⌝ }
 {
     let below = edge(n, 1, 0, 2);
@@ -75,7 +75,7 @@ fn points9(n: &[i64; 9], eight: bool) -> [i64; 9]
 
 // The sixteen control values of a quad with eight nodes, or nine.
 pub fn values(xs: &[i32], eight: bool) -> [i64; 16]
-    requires { ⌜ Each 2048 (now xs) ⌝ }
+    requires { ⌜ Inside (spec.quadKind eight) (now xs) ⌝ }
     ensures { λ r. ⌜ r ≡ control.controlValues (spec.quadKind eight) (now (xs .entry)) ⌝ }
 {
     let g = gap(eight);

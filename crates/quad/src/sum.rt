@@ -39,8 +39,8 @@ struct Vector {
 
 // The point b minus the point a, of the points with the coordinates x and y.
 fn difference(x: &[i64; 9], y: &[i64; 9], a: usize, b: usize) -> Vector
-    requires first { ⌜ Nine 393216 (now x) ⌝ }
-    requires second { ⌜ Nine 393216 (now y) ⌝ }
+    requires first { ⌜ Nine 786432 (now x) ⌝ }
+    requires second { ⌜ Nine 786432 (now y) ⌝ }
     ensures { λ r. ⌜ spec.vec r ≡ point (now (x .entry)) (now (y .entry)) b -ᵥ point (now (x .entry)) (now (y .entry)) a ⌝ }
 {
     Vector {
@@ -51,8 +51,8 @@ fn difference(x: &[i64; 9], y: &[i64; 9], a: usize, b: usize) -> Vector
 
 // α(i, j) = R(i+1, j) - R(i, j).
 fn alpha(x: &[i64; 9], y: &[i64; 9], i: usize, j: usize) -> Vector
-    requires first { ⌜ Nine 393216 (now x) ⌝ }
-    requires second { ⌜ Nine 393216 (now y) ⌝ }
+    requires first { ⌜ Nine 786432 (now x) ⌝ }
+    requires second { ⌜ Nine 786432 (now y) ⌝ }
     requires place { ⌜ (i ≤ 1) × (j ≤ 2) ⌝ }
     ensures { λ r. ⌜ spec.vec r ≡ control.α (spec.grid (now (x .entry)) (now (y .entry))) i j ⌝ }
 {
@@ -61,8 +61,8 @@ fn alpha(x: &[i64; 9], y: &[i64; 9], i: usize, j: usize) -> Vector
 
 // β(i, j) = R(i, j+1) - R(i, j).
 fn beta(x: &[i64; 9], y: &[i64; 9], i: usize, j: usize) -> Vector
-    requires first { ⌜ Nine 393216 (now x) ⌝ }
-    requires second { ⌜ Nine 393216 (now y) ⌝ }
+    requires first { ⌜ Nine 786432 (now x) ⌝ }
+    requires second { ⌜ Nine 786432 (now y) ⌝ }
     requires place { ⌜ (i ≤ 2) × (j ≤ 1) ⌝ }
     ensures { λ r. ⌜ spec.vec r ≡ control.β (spec.grid (now (x .entry)) (now (y .entry))) i j ⌝ }
 {
@@ -71,7 +71,7 @@ fn beta(x: &[i64; 9], y: &[i64; 9], i: usize, j: usize) -> Vector
 
 // The determinant of two vectors.
 fn det(a: Vector, b: Vector) -> i64
-    requires { ⌜ Each 786432 (a .x ∷ a .y ∷ b .x ∷ b .y ∷ []) ⌝ }
+    requires { ⌜ Each 1572864 (a .x ∷ a .y ∷ b .x ∷ b .y ∷ []) ⌝ }
     ensures { λ r. ⌜ r ≡ plane.det (spec.vec a) (spec.vec b) ⌝ }
 {
     points::det(a.x, a.y, b.x, b.y)
@@ -79,8 +79,8 @@ fn det(a: Vector, b: Vector) -> i64
 
 // The term C(2,i2)·C(2,j1)·det(α(i1,j1), β(i2,j2)), of value (i1+i2, j1+j2).
 fn term(x: &[i64; 9], y: &[i64; 9], i1: usize, i2: usize, j1: usize, j2: usize) -> i64
-    requires first { ⌜ Nine 393216 (now x) ⌝ }
-    requires second { ⌜ Nine 393216 (now y) ⌝ }
+    requires first { ⌜ Nine 786432 (now x) ⌝ }
+    requires second { ⌜ Nine 786432 (now y) ⌝ }
     requires places { ⌜ (i1 ≤ 1) × (i2 ≤ 2) × (j1 ≤ 2) × (j2 ≤ 1) ⌝ }
     ensures { λ r. ⌜ r ≡ control.term (spec.grid (now (x .entry)) (now (y .entry))) (i1 + i2) (j1 + j2) i1 i2 j1 j2 ⌝ }
 {
@@ -90,8 +90,8 @@ fn term(x: &[i64; 9], y: &[i64; 9], i1: usize, i2: usize, j1: usize, j2: usize) 
 
 // The sums of relation 27, (I, J) at I + 4J: over all i1, i2, j1, j2 each term is added where I = i1+i2 and J = j1+j2.
 fn sums(x: &[i64; 9], y: &[i64; 9]) -> [i64; 16]
-    requires first { ⌜ Nine 393216 (now x) ⌝ }
-    requires second { ⌜ Nine 393216 (now y) ⌝ }
+    requires first { ⌜ Nine 786432 (now x) ⌝ }
+    requires second { ⌜ Nine 786432 (now y) ⌝ }
     ensures { λ r. ⌜ r ≡ spec.sums9 (now (x .entry)) (now (y .entry)) ⌝ }
 {
     let mut c = [0; 16];
@@ -117,8 +117,8 @@ fn weight(i: usize, j: usize) -> i64
 
 // The sixteen values, (i, j) at i + 4j: each sum times its weight.
 pub fn combine(x: &[i64; 9], y: &[i64; 9]) -> [i64; 16]
-    requires first { ⌜ Nine 393216 (now x) ⌝ }
-    requires second { ⌜ Nine 393216 (now y) ⌝ }
+    requires first { ⌜ Nine 786432 (now x) ⌝ }
+    requires second { ⌜ Nine 786432 (now y) ⌝ }
     ensures { λ r. ⌜ r ≡ spec.combine9 (now (x .entry)) (now (y .entry)) ⌝ }
 {
     let s = sums(x, y);

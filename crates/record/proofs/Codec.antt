@@ -17,15 +17,15 @@ use native.Mathlib.Numerals.{add-one}
 use native.Mathlib.Omega.{arith}
 use native.Mathlib.Decide.{decLe}
 use lib.Dec.{lit<}
-use lib.IntN.{ℤ, pos, negsuc, natAbs}
+use lib.IntN.{ℤ, pos}
 use lib.ListN.{length, getD, take, drop}
 use lib.Seq.{getD-drop, getD-take, drop-drop, drop-cons, take-add, drop-at, ext-getD}
 use lib.Signed.{mag}
 use Rattle.algebra.specs.Fill.{listTo}
 use Rattle.algebra.proofs.Fill.{length-listTo, getD-listTo}
-use Rattle.element.specs.Kinds.{Kind, six, eight, nine, kindOf, coordinateLimit}
+use Rattle.element.specs.Kinds.{kindOf}
 use Rattle.element.specs.Refusals.{Accepted, Beyond}
-use Rattle.faults.proofs.Limits.{inside-each}
+use Rattle.element.proofs.Ranges.{inside-each, held-at}
 use Rattle.endian.specs.Numbers.{Bytes, bytes, number, signedBytes, signedNumber, part}
 use Rattle.endian.proofs.Numbers.{number-bytes, bytes-number, number-small}
 use Rattle.endian.proofs.Complement.{signed-bytes, bytes-signed}
@@ -82,22 +82,11 @@ numbers-read (suc n) at l p h =
     ∙ ap (λ (i : ℕ). part at i l) (let e : 4 * n + 4 ≡ 4 * suc n = omega arith in e)
 
 -- ---- a coordinate fits four bytes
-limit-most : (k : Kind) → coordinateLimit k ≤ 65536
-limit-most six = omega arith
-limit-most eight = omega arith
-limit-most nine = omega arith
-
-mag-≤ : (z : ℤ) → mag z ≤ natAbs z
-mag-≤ (pos n) = N.le-refl n
-mag-≤ (negsuc n) = omega arith
-
 coord-small : {v : ℕ} (r : Record) → WellFormed v r → (k : ℕ) → mag (getD (r .coords) k (pos 0)) < 128 * 256 ^ 3
-coord-small r w k = N.lt-of-le-of-lt (mag-≤ (getD (r .coords) k (pos 0))) (go (decLe (suc k) (2 * r .kind)))
+coord-small r w k = go (decLe (suc k) (2 * r .kind))
   where
-    go : Dec (k < 2 * r .kind) → natAbs (getD (r .coords) k (pos 0)) < 128 * 256 ^ 3
-    go (yes h) =
-        let s = inside-each {xs = used r} (w .inside) .at k .size in
-        N.lt-of-le-of-lt (N.le-trans (rw (getD-take (2 * r .kind) (r .coords) k (pos 0) h) at s) (limit-most (kindOf (r .kind)))) (lit< tt)
+    go : Dec (k < 2 * r .kind) → mag (getD (r .coords) k (pos 0)) < 128 * 256 ^ 3
+    go (yes h) = rw (getD-take (2 * r .kind) (r .coords) k (pos 0) h) at (held-at (kindOf (r .kind)) (used r) (w .inside) k)
     go (no h) =
         let n = 2 * r .kind in
         let e : getD (r .coords) k (pos 0) ≡ pos 0 =

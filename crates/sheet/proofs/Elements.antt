@@ -1,7 +1,7 @@
 -- An element's values as the checker and the writer of cells take them.
 --   shape-is       : the shape by the test of the code is that of the kind
 --   values-six, values-quad : the values by the two ways of the code are the control values
---   accepted-inside : an accepted element has its coordinates within its limit
+--   values-inside  : an accepted element has its coordinates within its limit, as they stand or from the first node
 --   element-room   : and its values have room for the limit's cuts
 --   as-kind        : what holds of the shape and the values that the code took holds of those of the kind
 -- Assumes nothing.
@@ -18,12 +18,13 @@ use lib.ListN.{take}
 use Rattle.algebra.specs.Within.{Each}
 use Rattle.algebra.proofs.Within.{each-≤}
 use Rattle.forms.specs.Shapes.{Shape}
-use Rattle.element.specs.Kinds.{Kind, six, eight, nine, kindOf, coordinateLimit, greatestLevel, sizeLimit}
+use Rattle.element.specs.Kinds.{Kind, six, eight, nine, kindOf, greatestLevel, sizeLimit}
 use Rattle.element.specs.Control.{values6, controlValues}
 use Rattle.element.specs.Cells.{shapeOf}
+use Rattle.element.specs.Origin.{Inside}
 use Rattle.element.specs.Refusals.{Accepted, verdictCodes}
 use Rattle.element.proofs.Sizes.{values-size}
-use Rattle.faults.proofs.Limits.{accepted-each}
+use Rattle.faults.proofs.Limits.{accepted-inside}
 use Rattle.quad.specs.Points.{quadKind}
 use Rattle.walks.specs.Room.{cap}
 use Rattle.walks.proofs.Room.{cap-down}
@@ -55,7 +56,7 @@ deepest-room eight = lit≤ tt
 deepest-room nine = lit≤ tt
 
 kind-room : (k : Kind) (l : ℕ) (xs : List ℤ) → l ≤ greatestLevel k
-    → Each (coordinateLimit k) xs
+    → Inside k xs
     → Each (cap (shapeOf k .growth) l) (controlValues k xs)
 kind-room k l xs h p =
     let e : greatestLevel k - l + l ≡ greatestLevel k = omega arith in
@@ -64,13 +65,13 @@ kind-room k l xs h p =
     each-≤ (values-size k xs p) (N.le-trans (deepest-room k) falls)
 
 module _ (n l : ℕ) (xs : List ℤ) (a : Accepted (verdictCodes n l xs)) where
-  pub accepted-inside : Each (coordinateLimit (kindOf n)) xs
-  accepted-inside = accepted-each n xs (accepted-bounds n l xs a)
+  pub values-inside : Inside (kindOf n) xs
+  values-inside = accepted-inside n xs (accepted-bounds n l xs a)
 
   pub element-room : (r : List ℤ) → valuesBy (eqb n 6) r ≡ controlValues (kindOf n) xs → Each (cap (growthBy (eqb n 6)) l) (valuesBy (eqb n 6) r)
   element-room r e =
       subst (λ (c : List ℤ). Each (cap (growthBy (eqb n 6)) l) c) (sym e)
-      (subst (λ (S : Shape). Each (cap (S .growth) l) (controlValues (kindOf n) xs)) (sym (shape-is n)) (kind-room (kindOf n) l xs (accepted-limit n l xs a) accepted-inside))
+      (subst (λ (S : Shape). Each (cap (S .growth) l) (controlValues (kindOf n) xs)) (sym (shape-is n)) (kind-room (kindOf n) l xs (accepted-limit n l xs a) values-inside))
 
 pub as-kind : (n : ℕ) (xs r : List ℤ) (P : Shape → List ℤ → Type 0) → valuesBy (eqb n 6) r ≡ controlValues (kindOf n) xs
     → P (shapeBy (eqb n 6)) (valuesBy (eqb n 6) r)

@@ -8,9 +8,9 @@ use text::write::word;
 use verdict::Word;
 ghost use mathlib.Core.Path.{_≡_};
 ghost use lib.Dec.{eqb};
-ghost use Rattle.algebra.specs.Within.{Each};
-ghost use Rattle.element.specs.Kinds.{kindOf, coordinateLimit};
+ghost use Rattle.element.specs.Kinds.{kindOf};
 ghost use Rattle.element.specs.Control.{controlValues};
+ghost use Rattle.element.specs.Origin.{Inside};
 ghost use Rattle.element.specs.Refusals.{Accepted, verdictCodes};
 ghost use Rattle.text.specs.Writing.{Wrote};
 ghost use Rattle.sheet_cells.specs.Either.{valuesBy};
@@ -32,7 +32,7 @@ pub struct WrittenSheet {
 
 // The control values of an element, a triangle's first.
 fn values(kind: u8, coords: &[i32]) -> [i64; 16]
-    requires { ⌜ Each (coordinateLimit (kindOf kind)) (now coords) ⌝ }
+    requires { ⌜ Inside (kindOf kind) (now coords) ⌝ }
     ensures { λ r. ⌜ valuesBy (eqb kind 6) r ≡ controlValues (kindOf kind) (now (coords .entry)) ⌝ }
 {
     if kind == 6 {

@@ -2,21 +2,24 @@
 --   between-small, points6-nine : sizes
 --   combine6-is      : the control values
 -- Assumes nothing.
-use mathlib.Core.Path.{_≡_, refl}
+use mathlib.Core.Path.{_≡_, refl, _∙_}
 use mathlib.Core.List.{List}
 use Prim.Native.Nat.{ℕ}
 use lib.Dec.{lit≤}
 use lib.IntN.{ℤ, pos, _*ℤ_}
 use Rattle.algebra.specs.Within.{Within}
 use Rattle.algebra.proofs.Within.{within-pos, within--, within-*, within-≤, each-nil, each-cons}
-use Rattle.element.specs.Control.{at, values6}
+use Rattle.element.specs.Kinds.{six}
+use Rattle.element.specs.Control.{at, values6, controlValues}
+use Rattle.element.specs.Origin.{fromFirst, Inside}
+use Rattle.element.proofs.Origin.{values-first}
 use Rattle.points.specs.Points.{Nine, coordinates}
 use Rattle.triangle.specs.Points.{between, points6, combine6}
 
-pub between-small : {n : List ℤ} → Nine 65536 n → (m a b : ℕ) → Within 393216 (between n m a b)
+pub between-small : {n : List ℤ} → Nine 131072 n → (m a b : ℕ) → Within 786432 (between n m a b)
 between-small p m a b = within-- (within-- (within-* (within-pos 4) (p .each .at m)) (p .each .at a)) (p .each .at b)
 
-pub points6-nine : {n : List ℤ} → Nine 65536 n → Nine 393216 (points6 n)
+pub points6-nine : {n : List ℤ} → Nine 131072 n → Nine 786432 (points6 n)
 points6-nine {n} p =
     record {
       long = refl;
@@ -25,13 +28,18 @@ points6-nine {n} p =
           (each-cons none (each-cons none (each-cons none each-nil))))))));
     }
   where
-    corner : (k : ℕ) → Within 393216 (pos 2 *ℤ at n k)
+    corner : (k : ℕ) → Within 786432 (pos 2 *ℤ at n k)
     corner k = within-≤ (within-* (within-pos 2) (p .each .at k)) (lit≤ tt)
 
-    none : Within 393216 (pos 0)
+    none : Within 786432 (pos 0)
     none = within-≤ (within-pos 0) (lit≤ tt)
 
--- the formula of 01 on vectors is this one on coordinates
-pub combine6-is : (xs : List ℤ) → combine6 (points6 (coordinates xs 9 0)) (points6 (coordinates xs 9 1)) ≡ values6 xs
+-- the formula of 01 on vectors is this one on coordinates, and does not move with the origin
+formula : (xs : List ℤ) → combine6 (points6 (coordinates xs 9 0)) (points6 (coordinates xs 9 1)) ≡ values6 xs
 unfolding values6
-combine6-is xs = refl
+formula xs = refl
+
+pub combine6-is : (xs : List ℤ) → Inside six xs
+    → combine6 (points6 (coordinates (fromFirst xs) 9 0)) (points6 (coordinates (fromFirst xs) 9 1)) ≡ values6 xs
+unfolding controlValues
+combine6-is xs p = formula (fromFirst xs) ∙ values-first six xs (p .long)

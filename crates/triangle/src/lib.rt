@@ -3,14 +3,15 @@ use points::across;
 use points::coordinates;
 use points::pick;
 ghost use mathlib.Core.Path.{_≡_};
-ghost use Rattle.algebra.specs.Within.{Each};
+ghost use Rattle.element.specs.Kinds.{six};
 ghost use Rattle.element.specs.Control.{values6};
+ghost use Rattle.element.specs.Origin.{Inside};
 ghost use Rattle.points.specs.Points.{Nine};
 ghost use Rattle.triangle.specs.Points as spec;
 
 // The doubled control point of the edge from a to b with the middle m, along one coordinate.
 fn between(n: &[i64; 9], m: usize, a: usize, b: usize) -> i64
-    requires { ⌜ Nine 65536 (now n) ⌝ }
+    requires { ⌜ Nine 131072 (now n) ⌝ }
     ensures { λ r. ⌜ r ≡ spec.between (now (n .entry)) m a b ⌝ }
 {
     4 * pick(n, m) - pick(n, a) - pick(n, b)
@@ -18,7 +19,7 @@ fn between(n: &[i64; 9], m: usize, a: usize, b: usize) -> i64
 
 // The doubled control points, along one coordinate.
 fn points6(n: &[i64; 9]) -> [i64; 9]
-    requires { ⌜ Nine 65536 (now n) ⌝ }
+    requires { ⌜ Nine 131072 (now n) ⌝ }
     ensures { λ r. ⌜ r ≡ spec.points6 (now (n .entry)) ⌝ }
 {
     let q01 = between(n, 3, 0, 1);
@@ -29,8 +30,8 @@ fn points6(n: &[i64; 9]) -> [i64; 9]
 
 // The six control values from the points along x and along y, which stand in the order Q00, Q11, Q22, Q01, Q12, Q02.
 fn combine(x: &[i64; 9], y: &[i64; 9]) -> [i64; 6]
-    requires first { ⌜ Nine 393216 (now x) ⌝ }
-    requires second { ⌜ Nine 393216 (now y) ⌝ }
+    requires first { ⌜ Nine 786432 (now x) ⌝ }
+    requires second { ⌜ Nine 786432 (now y) ⌝ }
     ensures { λ r. ⌜ r ≡ spec.combine6 (now (x .entry)) (now (y .entry)) ⌝ }
 {
     [
@@ -45,7 +46,7 @@ fn combine(x: &[i64; 9], y: &[i64; 9]) -> [i64; 6]
 
 // The six control values of a triangle.
 pub fn values(xs: &[i32]) -> [i64; 6]
-    requires { ⌜ Each 65536 (now xs) ⌝ }
+    requires { ⌜ Inside six (now xs) ⌝ }
     ensures { λ r. ⌜ r ≡ values6 (now (xs .entry)) ⌝ }
 {
     let x = points6(&coordinates(xs, 9, 0));

@@ -19,9 +19,10 @@ use Rattle.algebra.specs.Within.{Each}
 use Rattle.algebra.proofs.Within.{each-≤, each-as}
 use Rattle.element.specs.Kinds.{Kind, six, eight, nine, kindOf, greatestLevel}
 use Rattle.element.specs.Control.{values6, controlValues}
+use Rattle.element.specs.Origin.{Inside}
 use Rattle.element.specs.Refusals.{Accepted, Coded, boundsCodes, verdictCodes}
 use Rattle.element.proofs.Sizes.{values-size}
-use Rattle.faults.proofs.Limits.{limit-quad, level-quad, accepted-each}
+use Rattle.faults.proofs.Limits.{level-quad, accepted-inside}
 use Rattle.quad.specs.Points.{quadKind}
 use Rattle.judge.specs.Verdict.{Answer, is-valid, is-invalid, is-undecided}
 use Rattle.judge.specs.Elements.{subject}
@@ -92,20 +93,20 @@ module _ (n l : ℕ) (xs : List ℤ) where
       (g ∙ ap (λ (v : Walk). given (answer l v)) (f ∙ ap (λ (k : Kind). walkOf k l (controlValues k xs)) (sym e)))
 
   -- ---- what the tests of the code tell of the kind
-  pub triangle-accepted : n ≡ 6 → Accepted (verdictCodes n l xs) → (l ≤ 10) × Each 65536 xs
+  pub triangle-accepted : n ≡ 6 → Accepted (verdictCodes n l xs) → (l ≤ 10) × Inside six xs
   triangle-accepted e a =
-      (rw (kind-six n e) at (accepted-limit a), rw (kind-six n e) at (accepted-each n xs (accepted-bounds a)))
+      (rw (kind-six n e) at (accepted-limit a), rw (kind-six n e) at (accepted-inside n xs (accepted-bounds a)))
 
-  pub quad-accepted : ¬ (n ≡ 6) → Accepted (verdictCodes n l xs) → (l ≤ 4) × Each 2048 xs
+  pub quad-accepted : ¬ (n ≡ 6) → Accepted (verdictCodes n l xs) → (l ≤ 4) × Inside (quadKind (eqb n 8)) xs
   quad-accepted h a =
-      (rw (sym (level-quad n h)) at (accepted-limit a), rw (sym (limit-quad n h)) at (accepted-each n xs (accepted-bounds a)))
+      (rw (sym (level-quad n h)) at (accepted-limit a), rw (kind-quad n h) at (accepted-inside n xs (accepted-bounds a)))
 
 -- ---- a triangle's walk
-triangle-small : (xs : List ℤ) → Each 65536 xs → Each 4398046511104 (controlValues six xs)
+triangle-small : (xs : List ℤ) → Inside six xs → Each 4398046511104 (controlValues six xs)
 triangle-small xs h = each-≤ (values-size six xs h) (lit≤ tt)
 
 pub triangle-room : (n : ℕ) (xs : List ℤ) {c : List ℤ} → n ≤ 10
-    → Each 65536 xs
+    → Inside six xs
     → c ≡ values6 xs
     → Room n 0 0 0 true c
 unfolding controlValues
@@ -121,12 +122,12 @@ triangle-walked n xs e f = f ∙ ap (λ (c : List ℤ). walkOf six n c) e
 half-of : (n : ℕ) → 2 * n / 2 ≡ n
 half-of n = omega arith
 
-quad-small : (b : Bool) (xs : List ℤ) → Each 2048 xs → Each 274877906944 (controlValues (quadKind b) xs)
+quad-small : (b : Bool) (xs : List ℤ) → Inside (quadKind b) xs → Each 274877906944 (controlValues (quadKind b) xs)
 quad-small true xs h = each-≤ (values-size eight xs h) (lit≤ tt)
 quad-small false xs h = each-≤ (values-size nine xs h) (lit≤ tt)
 
 pub quad-room : (n : ℕ) (b : Bool) (xs : List ℤ) {c : List ℤ} → n ≤ 4
-    → Each 2048 xs
+    → Inside (quadKind b) xs
     → c ≡ controlValues (quadKind b) xs
     → (2 * n ≡ 2 * (2 * n / 2)) × quads.Room (2 * n / 2) 0 0 0 c
 quad-room n b xs {c} h k e = quad-places.start-room n c h (each-as e (quad-small b xs k))

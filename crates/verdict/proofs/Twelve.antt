@@ -1,5 +1,7 @@
 -- The twelve elements of 01 as answers of the call `verdict`: it accepts each of them, and answers what 01 lists, in every field.
---   listed, list-accepted : a list of coordinates that a kind takes, as a test
+--   allWithin, within-at : numbers within a limit, as a test
+--   listed, list-accepted : a list of coordinates that a kind takes as they stand, as a test
+--   kind-of-nodes, is-kind : a kind and its number
 --   accepts, accepted-kind : an element of a kind is accepted, by tests that compute
 --   element-called   : the call then has the element's verdict as its answer, and no other
 --   twelve-called    : the claim, for the whole list
@@ -26,11 +28,11 @@ use Rattle.verdict.specs.Twelve.{Called, AllCalled}
 use Rattle.verdict.proofs.Outcomes.{verdict-unique}
 
 -- ---- acceptance, as a test
-abbrev allWithin : ℕ → List ℤ → Bool
+abbrev pub allWithin : ℕ → List ℤ → Bool
 allWithin n [] = true
 allWithin n (z ∷ xs) = leb (natAbs z) n && allWithin n xs
 
-within-at : (n : ℕ) (xs : List ℤ) → T (allWithin n xs) → (i : ℕ) → natAbs (at xs i) ≤ n
+pub within-at : (n : ℕ) (xs : List ℤ) → T (allWithin n xs) → (i : ℕ) → natAbs (at xs i) ≤ n
 within-at n [] t i = zero-le
 within-at n (z ∷ xs) t zero = leb→le (natAbs z) n (T-and (leb (natAbs z) n) (allWithin n xs) t .0)
 within-at n (z ∷ xs) t (suc i) = within-at n xs (T-and (leb (natAbs z) n) (allWithin n xs) t .1) i
@@ -41,17 +43,17 @@ listed k xs = eqb (length xs) (2 * nodeCount k) && allWithin (coordinateLimit k)
 pub list-accepted : (k : Kind) (xs : List ℤ) → T (listed k xs) → ¬ WrongLength (nodeCount k) xs × ¬ Outside k xs
 list-accepted k xs t =
     let (a, b) = T-and (eqb (length xs) (2 * nodeCount k)) (allWithin (coordinateLimit k) xs) t in
-    ((λ f. f (eqb→eq (length xs) (2 * nodeCount k) a)), (λ f. N.not-le-of-lt (f .2) (within-at (coordinateLimit k) xs b (f .0))))
+    ((λ f. f (eqb→eq (length xs) (2 * nodeCount k) a)), (λ f. N.not-le-of-lt (f .0 .2) (within-at (coordinateLimit k) xs b (f .0 .0))))
 
 abbrev pub accepts : Kind → ℕ → List ℤ → Bool
 accepts k l xs = leb l (greatestLevel k) && listed k xs
 
-kind-of-nodes : (k : Kind) → kindOf (nodeCount k) ≡ k
+pub kind-of-nodes : (k : Kind) → kindOf (nodeCount k) ≡ k
 kind-of-nodes six = refl
 kind-of-nodes eight = refl
 kind-of-nodes nine = refl
 
-is-kind : (k : Kind) → ¬ NotKind (nodeCount k)
+pub is-kind : (k : Kind) → ¬ NotKind (nodeCount k)
 is-kind six f = f .0 refl
 is-kind eight f = f .1 refl
 is-kind nine f = f .2 refl

@@ -3,9 +3,9 @@ use faults::verdict_code;
 use steps::Walk;
 ghost use mathlib.Core.Path.{_≡_};
 ghost use Prim.Native.Nat.{_≤_};
-ghost use Rattle.algebra.specs.Within.{Each};
 ghost use Rattle.element.specs.Kinds.{six};
 ghost use Rattle.element.specs.Control.{controlValues};
+ghost use Rattle.element.specs.Origin.{Inside};
 ghost use Rattle.quad.specs.Points.{quadKind};
 ghost use Rattle.walks.specs.Walk as walks;
 ghost use Rattle.walks.specs.Elements.{walkOf};
@@ -91,7 +91,7 @@ pub fn told(w: Walk, limit: u32) -> Judged
 
 // The walk of a triangle.
 fn walk_triangle(coords: &[i32], limit: u32) -> Walk
-    requires { ⌜ (limit ≤ 10) × Each 65536 (now coords) ⌝ }
+    requires { ⌜ (limit ≤ 10) × Inside six (now coords) ⌝ }
     ensures { λ r. ⌜ r ≡ walkOf six limit (controlValues six (now (coords .entry))) ⌝ }
 {
     let c = triangle::values(coords);
@@ -100,7 +100,7 @@ fn walk_triangle(coords: &[i32], limit: u32) -> Walk
 
 // The walk of a quad with eight nodes, or nine: two halvings for each level.
 fn walk_quad(coords: &[i32], eight: bool, limit: u32) -> Walk
-    requires { ⌜ (limit ≤ 4) × Each 2048 (now coords) ⌝ }
+    requires { ⌜ (limit ≤ 4) × Inside (quadKind eight) (now coords) ⌝ }
     ensures { λ r. ⌜ r ≡ walkOf (quadKind eight) limit (controlValues (quadKind eight) (now (coords .entry))) ⌝ }
 {
     let c = quad::values(coords, eight);

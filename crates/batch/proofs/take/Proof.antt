@@ -1,89 +1,46 @@
--- `batch::take` meets its contract: what is refused changes nothing, and what passes is written behind what was taken.
-use mathlib.Core.Path.{sym, ap, _∙_, subst}
-use mathlib.Core.List.{List}
-use mathlib.Core.Logic.{inl, inr}
-use Prim.Native.Nat.{_*_}
-use native.Mathlib.Omega.{arith}
-use lib.IntN.{ℤ}
-use Rattle.element.specs.Refusals.{Refused, Accepted}
-use Rattle.element.proofs.Refusals.{coded-some, coded-none}
-use Rattle.endian.specs.Numbers.{over}
-use Rattle.record.specs.Record.{recordBytes}
-use Rattle.append.specs.Series.{Given, nextCodes}
-use Rattle.batch.specs.declared.Tally.{Tally}
-use Rattle.batch.proofs.Takes.{tried-short, tried-room, taken-halted, taken-moved}
+-- `batch::take` meets its contract: what is tried stands for what is given. Assumes nothing.
+use mathlib.Core.Path.{refl, sym, ap}
+use lib.ListN.{length, take}
+use Rattle.append.specs.Append.{newRecord}
+use Rattle.batch.proofs.Same.{same-moves}
+use Rattle.batch.proofs.Stands.{stands-codes, stands-coords, narrowed-length, narrowed-stands}
 use borrow.Author.Needs.{needs}
 use Rattle.batch.proofs.take.Statement.{statement}
 use Rattle.batch.proofs.take.Tie as tie
 
--- what is given, and that it passes
-abbrev one : tie.Else1 → Given
-one c = let a = c .before .before .before .args in record { id = a .id; kind = a .kind; limit = a .limit; coords = a .coords .now }
+narrowed-requires : tie.Need-narrowed-requires
+narrowed-requires c κs = search needs
 
-tried : (c : tie.Else1) → let s = c .before .before .before .args .s in Accepted (nextCodes (s .low) (s .count) (s .room) (one c))
-tried c = coded-none (c .before .next-code .ensures) tt (c .if1 .left)
+array-share-prefix-zs : tie.Need-array-share-prefix-zs
+array-share-prefix-zs c = search needs
 
-next-code-requires : tie.Need-next-code-requires
-next-code-requires c κs = search needs
+slice-aggregate-take-held : tie.Need-slice-aggregate-take-held
+slice-aggregate-take-held c =
+    let start = c .before .before .before in sym (narrowed-length (start .args .kind) (start .args .coords .now) (c .before .narrowed .result) (c .before .narrowed .ensures) (start .pre .1 .1))
 
-refused-requires : tie.Need-refused-requires
-refused-requires c κs = search needs
-
-returns : tie.Need-returns
-returns c =
-    let a = c .before .before .before .before .args in
-    let g : Given = record { id = a .id; kind = a .kind; limit = a .limit; coords = a .coords .now } in
-    let o = nextCodes (a .s .low) (a .s .count) (a .s .room) g in
-    inr (taken-halted (a .s) g (c .refused .result) _
-    (subst (Refused o) (sym (ap (λ (t : Tally). t .code) (c .refused .ensures))) (coded-some {o = o} (c .before .before .next-code .ensures) (c .before .if1 .taken))))
-
-cast-from : tie.Need-cast-from
-cast-from c = search needs
-
-mul-from : tie.Need-mul-from
-mul-from c = search needs
-
-pad-requires : tie.Need-pad-requires
-pad-requires c κs = let e = c .before in tried-short (e .before .before .before .args .s) (one e) (tried e)
-
-put-record-requires : tie.Need-put-record-requires
-put-record-requires c κs =
-    let e = c .before .before .before in
-    let a = e .before .before .before in
-    omega (arith, tried-room (a .args .s) (one e) (tried e) .0, a .pre .0, a .pre .1)
-
-one-more-requires : tie.Need-one-more-requires
-one-more-requires c κs =
-    let e = c .before .before .before .before .before .before in
-    let a = e .before .before .before in
-    let z = tried-room (a .args .s) (one e) (tried e) in
-    (z .0, a .pre .0, z .1)
+take-held-requires : tie.Need-take-held-requires
+take-held-requires c κs = search needs
 
 same-length : tie.Need-same-length
 same-length c = search needs
 
-returns-2 : tie.Need-returns-2
-returns-2 c =
-    let w = c .before .before .before in
-    let d = w .before .before in
-    let e = d .before .before in
-    let a = e .before .before .before .args in
-    inl (taken-moved (a .s) (one e) (c .one-more .result) _ _ (tried e) (c .one-more .ensures)
-    (w .put-record .ensures
-    ∙ ap (λ (zs : List ℤ). over (a .out .now) (80 * a .s .taken) (recordBytes (record { id = a .id; kind = a .kind; limit = a .limit; signed = 0; level = 0; coords = zs })))
-    (d .pad .ensures)))
+returns : tie.Need-returns
+returns c =
+    let tried = c .before .before in let narrow = tried .before .before .before in let start = narrow .before .before in
+    let a = start .args in let v = a .coords .now in let zs = narrow .narrowed .result in
+    let e = narrowed-length (a .kind) v zs (narrow .narrowed .ensures) (start .pre .1 .1) in
+    let st = narrowed-stands (a .kind) v zs (narrow .narrowed .ensures) (start .pre .1 .1) in
+    same-moves (stands-codes (a .s .low) (a .s .count) (a .s .room) (a .id) (a .kind) (a .limit) e st) refl
+    (λ k. ap (newRecord (a .id) (a .kind) (a .limit)) (stands-coords (a .s .low) (a .s .count) (a .s .room) (a .id) (a .kind) (a .limit) e st k))
+    (tried .take-held .ensures)
 
 pub take-spec : {M : Type 1} → statement M
 take-spec =
     tie.close
     (tie.spec
-    next-code-requires
-    refused-requires
-    returns
-    cast-from
-    mul-from
-    pad-requires
-    put-record-requires
-    one-more-requires
+    narrowed-requires
+    array-share-prefix-zs
+    slice-aggregate-take-held
+    take-held-requires
     same-length
-    returns-2)
+    returns)

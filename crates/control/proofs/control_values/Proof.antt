@@ -3,8 +3,8 @@ use mathlib.Core.Path.{_≡_, refl, sym, _∙_}
 use native.Mathlib.Omega.{arith}
 use Rattle.element.specs.Kinds.{kindOf, valueCount}
 use Rattle.element.proofs.Refusals.{coded-none}
-use Rattle.faults.proofs.Limits.{limit-quad, accepted-each}
-use Rattle.control.proofs.Answers.{kind-six, quad-count, six-values, quad-values, refuses, too-short, succeeds}
+use Rattle.faults.proofs.Limits.{accepted-inside}
+use Rattle.control.proofs.Answers.{kind-six, kind-quad, quad-count, six-values, quad-values, refuses, too-short, succeeds}
 use borrow.Author.Needs.{needs}
 use Rattle.control.proofs.control_values.Statement.{statement}
 use Rattle.control.proofs.control_values.Tie as tie
@@ -34,7 +34,7 @@ values-requires : tie.Need-values-requires
 values-requires c κs =
     let t = c .before in let e = t .before in let coded = e .before in let a = coded .before .args in
     rw (kind-six (a .kind) (t .if2 .taken)) at
-    (accepted-each (a .kind) (a .coords .now) (coded-none (coded .element-code .ensures) tt (e .if1 .left)))
+    (accepted-inside (a .kind) (a .coords .now) (coded-none (coded .element-code .ensures) tt (e .if1 .left)))
 
 slice-aggregate-put : tie.Need-slice-aggregate-put
 slice-aggregate-put c = search needs
@@ -69,8 +69,8 @@ returns-4 c =
 values-requires-2 : tie.Need-values-requires-2
 values-requires-2 c κs =
     let t = c .before in let e = t .before in let coded = e .before in let a = coded .before .args in
-    rw (sym (limit-quad (a .kind) (t .if2 .left))) at
-    (accepted-each (a .kind) (a .coords .now) (coded-none (coded .element-code .ensures) tt (e .if1 .left)))
+    rw (kind-quad (a .kind) (t .if2 .left)) at
+    (accepted-inside (a .kind) (a .coords .now) (coded-none (coded .element-code .ensures) tt (e .if1 .left)))
 
 slice-aggregate-put-2 : tie.Need-slice-aggregate-put-2
 slice-aggregate-put-2 c = search needs

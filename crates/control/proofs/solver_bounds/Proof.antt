@@ -1,8 +1,8 @@
 -- `control::solver_bounds` meets its contract: case by case.
 use mathlib.Core.Path.{sym, _∙_}
 use Rattle.element.proofs.Refusals.{coded-none}
-use Rattle.faults.proofs.Limits.{limit-quad, accepted-each}
-use Rattle.control.proofs.Answers.{kind-six, six-values, quad-values, values-small, values-many, bounds-refused, bounds-told}
+use Rattle.faults.proofs.Limits.{accepted-inside}
+use Rattle.control.proofs.Answers.{kind-quad, kind-six, six-values, quad-values, values-small, values-many, bounds-refused, bounds-told}
 use borrow.Author.Needs.{needs}
 use Rattle.control.proofs.solver_bounds.Statement.{statement}
 use Rattle.control.proofs.solver_bounds.Tie as tie
@@ -22,7 +22,7 @@ values-requires : tie.Need-values-requires
 values-requires c κs =
     let c2 = c .before .before in let c3 = c2 .before in
     rw (kind-six (c3 .args .kind) (c .if2 .taken)) at
-    (accepted-each (c3 .args .kind) (c3 .args .coords .now) (coded-none (c2 .element-code .ensures) tt (c .before .if1 .left)))
+    (accepted-inside (c3 .args .kind) (c3 .args .coords .now) (coded-none (c2 .element-code .ensures) tt (c .before .if1 .left)))
 
 -- src/lib.rt:123:40
 slice-aggregate-bounds-of : tie.Need-slice-aggregate-bounds-of
@@ -49,8 +49,8 @@ returns-2 c =
 values-requires-2 : tie.Need-values-requires-2
 values-requires-2 c κs =
     let c2 = c .before .before in let c3 = c2 .before in
-    rw (sym (limit-quad (c3 .args .kind) (c .if2 .left))) at
-    (accepted-each (c3 .args .kind) (c3 .args .coords .now) (coded-none (c2 .element-code .ensures) tt (c .before .if1 .left)))
+    rw (kind-quad (c3 .args .kind) (c .if2 .left)) at
+    (accepted-inside (c3 .args .kind) (c3 .args .coords .now) (coded-none (c2 .element-code .ensures) tt (c .before .if1 .left)))
 
 -- src/lib.rt:126:29
 slice-aggregate-bounds-of-2 : tie.Need-slice-aggregate-bounds-of-2

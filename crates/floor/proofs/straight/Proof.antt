@@ -23,7 +23,7 @@ across-requires c κs =
 returns : tie.Need-returns
 returns c =
     let x = c .before .before .before .before in
-    toZ-ofZ (sfits-of (c .across .ok)) ∙ c .across .ensures ∙ ap₂ (λ (u v : List ℤ). across u v 0 1 0 2) (x .coordinates .ensures) (c .before .before .before .coordinates2 .ensures) ∙ straight-is (x .before .args .coords .now)
+    toZ-ofZ (sfits-of (c .across .ok)) ∙ c .across .ensures ∙ ap₂ (λ (u v : List ℤ). across u v 0 1 0 2) (x .coordinates .ensures) (c .before .before .before .coordinates2 .ensures) ∙ straight-is (x .before .args .coords .now) (x .before .pre)
 
 pub straight-spec : {M : Type 1} → statement M
 straight-spec =

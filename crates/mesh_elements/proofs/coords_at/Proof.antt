@@ -1,6 +1,6 @@
 -- `mesh_elements::coords_at` meets its contract: the loop keeps that the first numbers are the coordinates.
 use mathlib.Core.Path.{_≡_, refl, ap, _∙_, subst}
-use mir.Syntax.{w32}
+use mir.Syntax.{w64}
 use mir.Facts.{toZ-ofZ}
 use Prim.Native.Nat.{_*_, _-_, _≤_}
 use native.Mathlib.Omega.{arith}
@@ -20,7 +20,7 @@ use Rattle.mesh_elements.proofs.coords_at.Tie as tie
 
 abbrev Inv-loop : tie.InvT-loop
 Inv-loop t numbers places at kind size names out₀ k₀ out k =
-    (k ≤ size) × (size ≤ 9) × Filled 18 (2 * k) (coordOf (clipped 2147483647) (nodesIn t) (line (drop at t))) out
+    (k ≤ size) × (size ≤ 9) × Filled 18 (2 * k) (coordOf (clipped 4294967295) (nodesIn t) (line (drop at t))) out
 
 abbrev μ-loop : tie.MeasureT-loop
 μ-loop t numbers places at kind size names out₀ k₀ out k = size - k
@@ -87,13 +87,13 @@ loop-again c =
     let t = a .t .now in
     let r = line (drop (a .at) t) in
     let k = d .loop .k in
-    let v = clipped 2147483647 in
+    let v = clipped 4294967295 in
     let n = name-is r _ _ _ k (d .before .nine-at .ensures) (d .before .before .before .type-at .ensures) (c .before .before .before .gmsh-place .ensures .0) in
     let e = c .before .before .find .ensures ∙ ap (λ m. rowOf m (nodesIn t)) n in (
       omega arith,
       d .loop .inv .1,
-      fill-two k (d .loop .inv .2) (omega arith) (toZ-ofZ {w = w32} (search needs) ∙ c .before .x-at .ensures ∙ coord-x v (nodesIn t) r k _ e)
-          (toZ-ofZ {w = w32} (search needs) ∙ c .y-at .ensures ∙ coord-y v (nodesIn t) r k _ e),
+      fill-two k (d .loop .inv .2) (omega arith) (toZ-ofZ {w = w64} (search needs) ∙ c .before .x-at .ensures ∙ coord-x v (nodesIn t) r k _ e)
+          (toZ-ofZ {w = w64} (search needs) ∙ c .y-at .ensures ∙ coord-y v (nodesIn t) r k _ e),
     )
 
 returns : tie.Need-returns Inv-loop μ-loop
@@ -102,7 +102,7 @@ returns c =
     let a = d .before .before .before .before .before .before .before .args in
     let s = d .before .before .size-of .ensures ∙ ap sizeOfType (d .before .before .before .type-at .ensures) in
     let e : d .loop .k ≡ sizeOfType (typeOf (line (drop (a .at) (a .t .now)))) = omega arith in
-    subst (λ m. take (2 * m) (d .loop .out) ≡ listTo (2 * m) (coordOf (clipped 2147483647) (nodesIn (a .t .now)) (line (drop (a .at) (a .t .now))))) e (d .loop .inv .2 .front)
+    subst (λ m. take (2 * m) (d .loop .out) ≡ listTo (2 * m) (coordOf (clipped 4294967295) (nodesIn (a .t .now)) (line (drop (a .at) (a .t .now))))) e (d .loop .inv .2 .front)
 
 pub coords-at-spec : {M : Type 1} → statement M
 coords-at-spec =

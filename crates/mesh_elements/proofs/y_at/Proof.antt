@@ -1,7 +1,7 @@
 -- `mesh_elements::y_at` meets its contract.
 use mathlib.Core.Path.{ap, _∙_}
 use lib.ListN.{drop}
-use mir.Syntax.{w32}
+use mir.Syntax.{w64}
 use mir.Facts.{toZ-ofZ}
 use Rattle.mesh_text.specs.Rows.{line, first as firstOf, rest as restOf}
 use Rattle.mesh_text.specs.Tests.{clipped}
@@ -29,9 +29,9 @@ returns : tie.Need-returns
 returns c =
     let d = c .before .before .before .before in
     let r = line (drop (d .before .before .args .at) (d .before .before .args .t .now)) in
-    toZ-ofZ {w = w32} (search needs)
+    toZ-ofZ {w = w64} (search needs)
     ∙ c .value .ensures
-    ∙ ap (clipped 2147483647)
+    ∙ ap (clipped 4294967295)
     (c .before .first .ensures
     ∙ ap firstOf (c .before .before .rest2 .ensures .0 ∙ ap restOf (c .before .before .before .rest .ensures .0 ∙ ap (λ l. restOf (line l)) (d .from .ensures)))
     ∙ third-word r)

@@ -3,67 +3,68 @@ use mathlib.Core.Path.{refl, _∙_, ap}
 use Prim.Native.Nat.{_+_, _*_, _-_, _≤_, _<_}
 use native.Mathlib.Omega.{arith}
 use borrow.Author.Needs.{sfits-of}
+use mir.Syntax.{w64}
+use mir.Val.{toZ, ofZ}
 use mir.Facts.{toZ-ofZ}
 use Rattle.algebra.specs.Fill.{Filled}
 use Rattle.algebra.proofs.Fill.{fill-start, fill-more, fill-end}
+use Rattle.algebra.proofs.Within.{rd, seen}
 use Rattle.element.specs.Control.{at}
-use Rattle.points.specs.Points.{place}
+use Rattle.element.specs.Origin.{fromFirst}
+use Rattle.points.specs.Points.{less, place}
 use Rattle.points.proofs.Points.{place-≤}
+use Rattle.points.proofs.First.{less-axis}
 use Rattle.points.proofs.coordinates.Statement.{statement}
 use Rattle.points.proofs.coordinates.Tie as tie
 
 abbrev Inv-loop : tie.InvT-loop
-Inv-loop xs gap axis c₀ k₀ c k = (k ≤ 9) × Filled 9 k (λ m. at xs (2 * place gap m + axis)) c
+Inv-loop xs gap axis from c₀ k₀ c k = (k ≤ 9) × Filled 9 k (λ m. at (fromFirst xs) (2 * place gap m + axis)) c
 
 abbrev μ-loop : tie.MeasureT-loop
-μ-loop xs gap axis c₀ k₀ c k = 9 - k
+μ-loop xs gap axis from c₀ k₀ c k = 9 - k
 
--- src/lib.rt:41:5
-loop-holds : tie.Need-loop-holds Inv-loop μ-loop
-loop-holds c = (omega arith, fill-start _ 9 _ refl)
-
--- src/lib.rt:42:13
-place-requires : tie.Need-place-requires Inv-loop μ-loop
-place-requires c κs = c .before .before .pre .0
-
--- src/lib.rt:43:26
-mul-coord : tie.Need-mul-coord Inv-loop μ-loop
-mul-coord c = omega (arith, c .place .ensures, place-≤ (c .before .before .before .args .gap) (c .before .before .loop .k))
-
--- src/lib.rt:43:26
-add-coord : tie.Need-add-coord Inv-loop μ-loop
-add-coord c =
-    let c2 = c .before .before in let c3 = c2 .before in
-    omega (arith, c .place .ensures, place-≤ (c3 .args .gap) (c2 .loop .k), c3 .pre .1)
-
--- src/lib.rt:43:16
 coord-requires : tie.Need-coord-requires Inv-loop μ-loop
 coord-requires c κs = tt
 
--- src/lib.rt:43:9
+loop-holds : tie.Need-loop-holds Inv-loop μ-loop
+loop-holds c = (omega arith, fill-start _ 9 _ refl)
+
+place-requires : tie.Need-place-requires Inv-loop μ-loop
+place-requires c κs = c .before .before .before .pre .0
+
+mul-less : tie.Need-mul-less Inv-loop μ-loop
+mul-less c = omega (arith, c .place .ensures, place-≤ (c .before .before .before .before .args .gap) (c .before .before .loop .k))
+
+add-less : tie.Need-add-less Inv-loop μ-loop
+add-less c =
+    let c2 = c .before .before in let c4 = c2 .before .before in
+    omega (arith, c .place .ensures, place-≤ (c4 .args .gap) (c2 .loop .k), c4 .pre .1)
+
+less-requires : tie.Need-less-requires Inv-loop μ-loop
+less-requires c κs = seen (rd (c .before .before .before .coord .ensures .1 .0) tt)
+
 mul-c : tie.Need-mul-c Inv-loop μ-loop
 mul-c c = omega arith
 
--- src/lib.rt:43:9
 array-set-from-c : tie.Need-array-set-from-c Inv-loop μ-loop
 array-set-from-c c = omega arith
 
--- src/lib.rt:44:9
 add-k : tie.Need-add-k Inv-loop μ-loop
 add-k c = omega arith
 
--- src/lib.rt:41:5
 loop-less : tie.Need-loop-less Inv-loop μ-loop
 loop-less c = omega arith
 
--- src/lib.rt:41:5
 loop-again : tie.Need-loop-again Inv-loop μ-loop
 loop-again c =
-    let c3 = c .before .before .before in let c4 = c3 .before in
-    let e = c .coord .ensures ∙ ap (λ m. at (c4 .args .xs .now) (2 * m + c4 .args .axis)) (c .before .place .ensures) in
-    (omega arith, fill-more (c3 .loop .inv .1) (omega arith) (toZ-ofZ (sfits-of (c .coord .ok)) ∙ e))
+    let turn = c .before .before .before in let start = turn .before .before in let first = turn .before .coord .ensures in
+    let v = start .args .xs .now in let a = start .args .axis in
+    let e = c .less .ensures .0
+    ∙ ap (λ m. less v (2 * m + a) (toZ w64 (ofZ w64 (turn .before .coord .result)))) (c .before .place .ensures)
+    ∙ ap (less v (2 * place (start .args .gap) (turn .loop .k) + a)) (rd (first .1 .0) tt .same ∙ first .0)
+    ∙ less-axis v (place (start .args .gap) (turn .loop .k)) a (start .pre .1) in
+    (omega arith, fill-more (turn .loop .inv .1) (omega arith) (toZ-ofZ (sfits-of (c .less .ok)) ∙ e))
 
--- src/lib.rt:35:1
 returns : tie.Need-returns Inv-loop μ-loop
 returns c = fill-end (c .before .loop .inv .1) (omega arith)
 
@@ -73,11 +74,12 @@ coordinates-spec =
     (tie.spec
     Inv-loop
     μ-loop
+    coord-requires
     loop-holds
     place-requires
-    mul-coord
-    add-coord
-    coord-requires
+    mul-less
+    add-less
+    less-requires
     mul-c
     array-set-from-c
     add-k

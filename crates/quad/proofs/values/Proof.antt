@@ -7,7 +7,8 @@ use lib.IntN.{ℤ}
 use Rattle.points.specs.Points.{coordinates}
 use Rattle.points.proofs.Points.{coordinates-nine}
 use Rattle.quad.specs.Points.{points9, combine9}
-use Rattle.quad.proofs.Points.{gap-pos, points9-nine}
+use Rattle.element.specs.Origin.{fromFirst}
+use Rattle.quad.proofs.Points.{gap-pos, quad-first, points9-nine}
 use Rattle.quad.proofs.Formula.{combine9-is}
 use borrow.Author.Needs.{needs}
 use Rattle.quad.proofs.values.Statement.{statement}
@@ -31,7 +32,7 @@ coordinates-requires c κs = rw (c .gap .ensures) (gap-pos (c .before .args .eig
 points9-requires : tie.Need-points9-requires
 points9-requires c κs =
     let c2 = c .before .before in let c3 = c2 .before in
-    rw (c .before .coordinates .ensures) (coordinates-nine (c3 .pre) (c2 .gap .result) 0)
+    rw (c .before .coordinates .ensures) (coordinates-nine (quad-first (c3 .args .eight) (c3 .pre)) (c2 .gap .result) 0)
 
 -- src/lib.rt:153:22
 coordinates-requires-2 : tie.Need-coordinates-requires-2
@@ -43,7 +44,7 @@ coordinates-requires-2 c κs =
 points9-requires-2 : tie.Need-points9-requires-2
 points9-requires-2 c κs =
     let c5 = c .before .before .before .before .before in let c6 = c5 .before in
-    rw (c .before .coordinates2 .ensures) (coordinates-nine (c6 .pre) (c5 .gap .result) 1)
+    rw (c .before .coordinates2 .ensures) (coordinates-nine (quad-first (c6 .args .eight) (c6 .pre)) (c5 .gap .result) 1)
 
 -- src/lib.rt:154:5
 combine-requires : tie.Need-combine-requires
@@ -51,8 +52,8 @@ combine-requires c κs =
     let c2 = c .before .before in let c4 = c2 .before .before in let c5 = c4 .before in let c7 = c5 .before .before in
     let c8 = c7 .before in let c9 = c8 .before in
     let g = c8 .gap .result in (
-      rw (c5 .points9 .ensures, c7 .coordinates .ensures) (points9-nine (coordinates-nine (c9 .pre) g 0) (c9 .args .eight)),
-      rw (c2 .points92 .ensures, c4 .coordinates2 .ensures) (points9-nine (coordinates-nine (c9 .pre) g 1) (c9 .args .eight)),
+      rw (c5 .points9 .ensures, c7 .coordinates .ensures) (points9-nine (coordinates-nine (quad-first (c9 .args .eight) (c9 .pre)) g 0) (c9 .args .eight)),
+      rw (c2 .points92 .ensures, c4 .coordinates2 .ensures) (points9-nine (coordinates-nine (quad-first (c9 .args .eight) (c9 .pre)) g 1) (c9 .args .eight)),
     )
 
 -- src/lib.rt:147:1
@@ -60,12 +61,12 @@ returns : tie.Need-returns
 returns c =
     let c3 = c .before .before .before in let c5 = c3 .before .before in let c6 = c5 .before in let c8 = c6 .before .before in
     let c9 = c8 .before in let c10 = c9 .before in
-    let along : ℕ → ℕ → List ℤ = λ a g. points9 (coordinates (c10 .args .xs .now) g a) (c10 .args .eight) in
+    let along : ℕ → ℕ → List ℤ = λ a g. points9 (coordinates (fromFirst (c10 .args .xs .now)) g a) (c10 .args .eight) in
     c .combine .ensures
     ∙ ap₂ combine9
     (c6 .points9 .ensures ∙ ap (λ n. points9 n (c10 .args .eight)) (c8 .coordinates .ensures) ∙ ap (along 0) (c9 .gap .ensures))
     (c3 .points92 .ensures ∙ ap (λ n. points9 n (c10 .args .eight)) (c5 .coordinates2 .ensures) ∙ ap (along 1) (c9 .gap .ensures))
-    ∙ combine9-is (c10 .args .xs .now) (c10 .args .eight)
+    ∙ combine9-is (c10 .args .xs .now) (c10 .args .eight) (c10 .pre)
 
 pub values-spec : {M : Type 1} → statement M
 values-spec =

@@ -7,7 +7,7 @@ use native.Mathlib.Nat as N
 use Rattle.element.specs.Kinds.{NotKind, kindOf}
 use Rattle.element.specs.Refusals.{AboveLevel, Outside, Accepted}
 use Rattle.element.proofs.Refusals.{coded-some, coded-none, coded-here, coded-past, coded-end}
-use Rattle.faults.proofs.Limits.{each-inside}
+use Rattle.element.proofs.Ranges.{each-inside}
 use Rattle.record.specs.declared.Record.{Record}
 use Rattle.record.specs.Record.{used, readRecord}
 use Rattle.record.specs.Faults.{TooHigh, NotZero, signCodes}

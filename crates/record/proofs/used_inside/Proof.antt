@@ -1,7 +1,11 @@
 -- `record::used_inside` meets its contract: the slice lent holds the coordinates of the kind's nodes. Assumes nothing.
 use mathlib.Core.Path.{_≡_, sym}
+use mathlib.Core.List.{List}
+use Prim.Native.Nat.{ℕ, _≤_}
 use native.Mathlib.Omega.{arith}
-use lib.ListN.{length}
+use lib.Dec.{lit≤}
+use lib.IntN.{ℤ}
+use lib.ListN.{length, take}
 use lib.Seq.{length-take-le}
 use borrow.Author.Needs.{needs}
 use Rattle.record.proofs.used_inside.Statement.{statement}
@@ -10,10 +14,11 @@ use Rattle.record.proofs.used_inside.Tie as tie
 array-share-prefix-coords : tie.Need-array-share-prefix-coords
 array-share-prefix-coords c = search needs
 
+front-length : (n : ℕ) (v : List ℤ) → length v ≡ 18 → n ≤ 18 → n ≡ length (take n v)
+front-length n v e h = sym (length-take-le n v (omega arith))
+
 slice-aggregate-inside : tie.Need-slice-aggregate-inside
-slice-aggregate-inside c =
-    let v = c .before .before .args .t1 in
-    let l : length v ≡ 18 = search needs in sym (length-take-le 12 v (omega arith))
+slice-aggregate-inside c = front-length _ (c .before .before .args .t1) (search needs) (lit≤ tt)
 
 inside-requires : tie.Need-inside-requires
 inside-requires c κs = search needs

@@ -5,7 +5,7 @@ use borrow.Author.Needs.{needs}
 use lib.ListN.{drop}
 use Rattle.element.proofs.Refusals.{coded-none}
 use Rattle.cuttings.specs.Reads.{Reads, Checked}
-use Rattle.sheet.proofs.Elements.{accepted-inside, element-room, as-kind}
+use Rattle.sheet.proofs.Elements.{values-inside, element-room, as-kind}
 use Rattle.sheet.proofs.Checks.{headed-no, headed-yes, check-refused, check-headless, check-read}
 use Rattle.sheet.proofs.check_sheet.Statement.{statement}
 use Rattle.sheet.proofs.check_sheet.Tie as tie
@@ -36,7 +36,7 @@ returns-2 c =
 values-requires : tie.Need-values-requires
 values-requires c κs =
     let e = c .before .before in let coded = e .before in let a = coded .before .before .args in
-    accepted-inside (a .kind) (a .limit) (a .coords .now) (coded-none (coded .verdict-code .ensures) tt (e .if1 .left))
+    values-inside (a .kind) (a .limit) (a .coords .now) (coded-none (coded .verdict-code .ensures) tt (e .if1 .left))
 
 cell-requires : tie.Need-cell-requires
 cell-requires c κs =

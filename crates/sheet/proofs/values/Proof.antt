@@ -1,10 +1,8 @@
 -- `values` meets its contract: the values of the kind, a triangle's with zeros behind them. Assumes nothing.
-use mathlib.Core.Path.{sym}
 use borrow.Author.Needs.{needs}
 use Rattle.algebra.proofs.Within.{each-≤}
 use native.Mathlib.Omega.{arith}
-use Rattle.faults.proofs.Limits.{limit-quad}
-use Rattle.verdict.proofs.Answers.{kind-six}
+use Rattle.verdict.proofs.Answers.{kind-six, kind-quad}
 use Rattle.sheet.proofs.Elements.{values-six, values-quad}
 use Rattle.sheet.proofs.values.Statement.{statement}
 use Rattle.sheet.proofs.values.Tie as tie
@@ -21,7 +19,7 @@ returns c =
     values-six (a .kind) (a .coords .now) (c .sixteen .result) (test .if1 .taken) (values .values .ensures) (c .sixteen .ensures)
 
 values-requires-2 : tie.Need-values-requires-2
-values-requires-2 c κs = let start = c .before in rw (sym (limit-quad (start .args .kind) (c .if1 .left))) at (start .pre)
+values-requires-2 c κs = let start = c .before in rw (kind-quad (start .args .kind) (c .if1 .left)) at (start .pre)
 
 returns-2 : tie.Need-returns-2
 returns-2 c =

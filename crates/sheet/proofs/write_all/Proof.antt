@@ -1,13 +1,13 @@
 -- `write_all` meets its contract: the header, and the cutting behind it. Assumes nothing.
 use borrow.Author.Needs.{needs}
-use Rattle.sheet.proofs.Elements.{accepted-inside, element-room}
+use Rattle.sheet.proofs.Elements.{values-inside, element-room}
 use Rattle.sheet.proofs.Writes.{wrote-sheet}
 use Rattle.sheet.proofs.write_all.Statement.{statement}
 use Rattle.sheet.proofs.write_all.Tie as tie
 
 values-requires : tie.Need-values-requires
 values-requires c κs =
-    let start = c .before in let a = start .args in accepted-inside (a .kind) (a .limit) (a .coords .now) (start .pre)
+    let start = c .before in let a = start .args in values-inside (a .kind) (a .limit) (a .coords .now) (start .pre)
 
 slice-aggregate-word : tie.Need-slice-aggregate-word
 slice-aggregate-word c = search needs

@@ -2,7 +2,7 @@
 use mathlib.Core.Path.{sym, subst}
 use mathlib.Core.List.{[], _∷_}
 use native.Mathlib.Omega.{arith}
-use lib.ListN.{take, drop}
+use lib.ListN.{take, drop, length-take}
 use lib.Seq.{length-take-le}
 use Rattle.append.specs.Series.{Given}
 use Rattle.batch.specs.Tallies.{Moves}
@@ -36,7 +36,10 @@ slice-aggregate-take c =
     sym (length-take-le (d .result) (d .last .1 .1 .0) (omega (arith, d .ensures .0, d .kept .1 .1 .0)))
 
 take-requires : tie.Need-take-requires
-take-requires c κs = search needs
+take-requires c κs =
+    let d = c .before .before .before .before .before .before .coords-at in
+    let start = c .before .before .before .before .before .before .before .before .before .before in
+    (start .pre .1 .1 .0, (start .pre .1 .1 .1, omega (arith, d .ensures .0, length-take (d .result) (d .last .1 .1 .0))))
 
 same-length : tie.Need-same-length
 same-length c = search needs

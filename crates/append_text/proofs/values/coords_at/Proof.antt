@@ -20,7 +20,7 @@ returns : tie.Need-returns
 returns c =
     let a = c .before .before .before .before .before .args in
     let f = c .before .coords-from .ensures in
-    (f .0, f .1 ∙ ap (λ ws. map (clipped 2147483647) (take (length (a .xs .now)) ws)) (c .before .before .before .behind-three .ensures .1))
+    (f .0, f .1 ∙ ap (λ ws. map (clipped 4294967295) (take (length (a .xs .now)) ws)) (c .before .before .before .behind-three .ensures .1))
 
 pub coords-at-spec : {M : Type 1} → statement M
 coords-at-spec =

@@ -6,7 +6,7 @@ use Prim.Native.Nat.{_-_, _≤_}
 use native.Mathlib.Numerals.{add-one}
 use native.Mathlib.Omega.{arith}
 use mir.Facts.{toZ-ofZ}
-use mir.Syntax.{w32}
+use mir.Syntax.{w64}
 use mir.Val.{toZ, ofZ}
 use lib.ListN.{length, take, drop, length-set}
 use Rattle.mesh_text.specs.Rows.{line, first, rest, isNil}
@@ -21,7 +21,7 @@ Inv-loop t at xs₀ p₀ i₀ xs p i =
     (i ≤ length xs₀)
     × (p ≤ length t)
     × (length xs ≡ length xs₀)
-    × (take i xs ≡ map (clipped 2147483647) (take i (line (drop at t))))
+    × (take i xs ≡ map (clipped 4294967295) (take i (line (drop at t))))
     × (line (drop p t) ≡ drop i (line (drop at t)))
 
 abbrev μ-loop : tie.MeasureT-loop
@@ -46,7 +46,7 @@ returns c =
     let ws = line (drop (a .at) (a .t .now)) in
     let e : isNil (drop (l .i) ws) ≡ true =
     ap isNil (sym (l .inv .4)) ∙ sym (c .before .over .ensures ∙ ap (λ u. isNil (line u)) (c .before .before .from .ensures)) ∙ c .if1 .taken in
-    (l .inv .0, l .inv .3 ∙ read-over (clipped 2147483647) (l .i) (length (a .xs .now)) ws e (l .inv .0))
+    (l .inv .0, l .inv .3 ∙ read-over (clipped 4294967295) (l .i) (length (a .xs .now)) ws e (l .inv .0))
 
 from-requires-2 : tie.Need-from-requires-2 Inv-loop μ-loop
 from-requires-2 c κs = tt
@@ -72,7 +72,7 @@ add-i c = search needs
 loop-less : tie.Need-loop-less Inv-loop μ-loop
 loop-less c =
     let l = c .before .before .before .before .before .before .before .before .loop in
-    omega (arith, length-set (l .xs) (l .i) (toZ w32 (ofZ w32 (c .before .value .result))))
+    omega (arith, length-set (l .xs) (l .i) (toZ w64 (ofZ w64 (c .before .value .result))))
 
 loop-again : tie.Need-loop-again Inv-loop μ-loop
 loop-again c =
@@ -81,14 +81,14 @@ loop-again c =
     let ws = line (drop (a .at) (a .t .now)) in
     let e : isNil (drop (l .i) ws) ≡ false =
     ap isNil (sym (l .inv .4)) ∙ sym (c .before .before .before .before .before .over .ensures ∙ ap (λ u. isNil (line u)) (c .before .before .before .before .before .before .from .ensures)) ∙ c .before .before .before .before .if1 .left in
-    let v : toZ w32 (ofZ w32 (c .before .value .result)) ≡ clipped 2147483647 (first (drop (l .i) ws)) =
-    toZ-ofZ {w = w32} (search needs)
+    let v : toZ w64 (ofZ w64 (c .before .value .result)) ≡ clipped 4294967295 (first (drop (l .i) ws)) =
+    toZ-ofZ {w = w64} (search needs)
     ∙ c .before .value .ensures
-    ∙ ap (clipped 2147483647) (c .before .before .first .ensures ∙ ap (λ u. first (line u)) (c .before .before .before .from2 .ensures) ∙ ap first (l .inv .4)) in (
+    ∙ ap (clipped 4294967295) (c .before .before .first .ensures ∙ ap (λ u. first (line u)) (c .before .before .before .from2 .ensures) ∙ ap first (l .inv .4)) in (
       omega (arith, l .inv .2),
       c .word-after .ensures .within,
       length-set (l .xs) (l .i) _ ∙ l .inv .2,
-      rw (add-one (l .i)) (rw v (read-next (clipped 2147483647) (l .i) ws (l .xs) (omega (arith, l .inv .2)) e (l .inv .3))),
+      rw (add-one (l .i)) (rw v (read-next (clipped 4294967295) (l .i) ws (l .xs) (omega (arith, l .inv .2)) e (l .inv .3))),
       c .word-after .ensures .same ∙ ap rest (l .inv .4) ∙ sym (drop-next (l .i) ws) ∙ ap (λ n. drop n ws) (sym (add-one (l .i))),
     )
 
@@ -100,7 +100,7 @@ returns-2 c =
     let l = c .before .loop in
     let a = c .before .before .before .args in
     let n : l .i ≡ length (a .xs .now) = omega (arith, l .inv .0, l .inv .2) in
-    (l .inv .0, l .inv .3 ∙ ap (λ k. map (clipped 2147483647) (take k (line (drop (a .at) (a .t .now))))) n)
+    (l .inv .0, l .inv .3 ∙ ap (λ k. map (clipped 4294967295) (take k (line (drop (a .at) (a .t .now))))) n)
 
 pub coords-from-spec : {M : Type 1} → statement M
 coords-from-spec =

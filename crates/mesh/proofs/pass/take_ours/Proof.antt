@@ -1,4 +1,4 @@
--- `mesh::pass::take_ours` meets its contract: what is read of the row is tried, its coordinates clipped at i32.
+-- `mesh::pass::take_ours` meets its contract: what is read of the row is tried, its coordinates clipped.
 use mathlib.Core.Path.{_≡_, sym, ap, _∙_}
 use mathlib.Core.List.{List}
 use Prim.Native.Nat.{ℕ, _*_, _≤_}
@@ -67,7 +67,13 @@ slice-aggregate-take c =
     sym (front-length _ _ _ _ (size-is (d .before .size-of .ensures) (d .before .before .type-at .ensures)) (d .coords-at .ensures))
 
 take-requires : tie.Need-take-requires
-take-requires c κs = search needs
+take-requires c κs =
+    let d = c .before .before in
+    let start = d .before .before .before .before .before .before .before .before in
+    let n = d .before .size-of .result in (
+      start .pre .1 .1 .1 .0,
+      (start .pre .1 .1 .1 .1, omega (arith, length-take (2 * n) (d .coords-at .result), d .before .size-of .ensures, size-small (d .before .before .type-at .result))),
+    )
 
 same-length : tie.Need-same-length
 same-length c = search needs
@@ -84,7 +90,7 @@ returns c =
     let q : Given = record { id = d .before .before .before .id-at .result; kind = n; limit = a .limit; coords = take (2 * n) xs } in
     row-moves (a .limit) rs r q
     (same-given (d .before .before .before .id-at .ensures) s
-    (front-is (typeOf r) n (coordOf (clipped 2147483647) rs r) xs s (d .coords-at .ensures))) (c .before .before .take .ensures)
+    (front-is (typeOf r) n (coordOf (clipped 4294967295) rs r) xs s (d .coords-at .ensures))) (c .before .before .take .ensures)
 
 pub take-ours-spec : {M : Type 1} → statement M
 take-ours-spec =

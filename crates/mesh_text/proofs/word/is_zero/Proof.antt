@@ -10,9 +10,9 @@ use Rattle.mesh_text.specs.Tests.{wholeB, sizeOf, zeroB}
 use Rattle.mesh_text.proofs.word.is_zero.Statement.{statement}
 use Rattle.mesh_text.proofs.word.is_zero.Tie as tie
 
-clip-zero : (n : ℕ) → eqb (min 2147483647 n) 0 ≡ eqb n 0
+clip-zero : (n : ℕ) → eqb (min 4294967295 n) 0 ≡ eqb n 0
 clip-zero zero = refl
-clip-zero (suc n) = ne-eqb (min 2147483647 (suc n)) 0 (λ e. absurd (omega arith)) ∙ sym (ne-eqb (suc n) 0 (λ e. absurd (omega arith)))
+clip-zero (suc n) = ne-eqb (min 4294967295 (suc n)) 0 (λ e. absurd (omega arith)) ∙ sym (ne-eqb (suc n) 0 (λ e. absurd (omega arith)))
 
 is-whole-requires : tie.Need-is-whole-requires
 is-whole-requires c κs = search needs

@@ -20,7 +20,7 @@ reads-to-requires c κs = search needs
 
 returns : tie.Need-returns
 unfolding sizeOf
-returns c = c .reads-to .ensures ∙ ap (λ l. min 2147483647 (reads l)) (c .before .front .ensures ∙ ap (run (inClass Digit)) (c .before .before .unsign .ensures))
+returns c = c .reads-to .ensures ∙ ap (λ l. min 4294967295 (reads l)) (c .before .front .ensures ∙ ap (run (inClass Digit)) (c .before .before .unsign .ensures))
 
 pub size-spec : {M : Type 1} → statement M
 size-spec = tie.close (tie.spec unsign-requires front-requires reads-to-requires returns)

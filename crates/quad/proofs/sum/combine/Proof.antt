@@ -38,7 +38,7 @@ abbrev μ-loop : tie.MeasureT-loop
 turn : (c : tie.After-c Inv-loop2 μ-loop2 Inv-loop μ-loop)
     → let c3 = c .before .before .before in let c5 = c3 .before .before in let c6 = c5 .before in
     let k = c3 .loop2 .i + 4 * c5 .loop .j in
-    Is 2760873697345536 (value (grid (c6 .before .args .x .now) (c6 .before .args .y .now)) (k % 4) (k / 4))
+    Is 11043494789382144 (value (grid (c6 .before .args .x .now) (c6 .before .args .y .now)) (k % 4) (k / 4))
     (toZ w64 (ofZ w64 (c .before .weight .result)) *ℤ toZ w64 (ofZ w64 (at (c6 .sums .result) k)))
 turn c =
     let c3 = c .before .before .before in let c5 = c3 .before .before in let c6 = c5 .before in

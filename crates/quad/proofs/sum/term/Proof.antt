@@ -30,7 +30,7 @@ weights c =
 
 determinant : (c : tie.After-det) → let a = entry c .args in
     let R = grid (a .x .now) (a .y .now) in
-    Is 1236950581248 (det (α R (a .i1) (a .j1)) (β R (a .i2) (a .j2))) (toZ w64 (ofZ w64 (c .det .result)))
+    Is 4947802324992 (det (α R (a .i1) (a .j1)) (β R (a .i2) (a .j2))) (toZ w64 (ofZ w64 (c .det .result)))
 determinant c =
     let p = entry c .pre in
     got (c .det .ensures ∙ ap₂ det (c .before .before .alpha .ensures) (c .before .beta .ensures)) (across-small (p .0) (p .1 .0) _ _ _ _) tt
