@@ -8,3 +8,4 @@ pub mod Solve
 pub mod Bound
 pub mod Within
 pub mod Fill
+pub mod Sofar

@@ -1,5 +1,7 @@
 -- J and the control values do not move with the origin (02, Ask 7).
 --   moved-length, moved-at, first-length, first-at : the moved list, place by place
+--   axis-at          : the first node's number along the axis of a place
+--   moved-node, first-node : node by node: a vector is taken from each, and from the first node on it is the first node
 --   first-moved      : from the first node a list is the same wherever it is moved to
 --   numbers-all      : a list is that of its own numbers
 --   jacobian-moved   : J from the nodes stays, at every place
@@ -25,11 +27,13 @@ use Rattle.algebra.proofs.Solve.{solve}
 use Rattle.algebra.proofs.Fill.{length-listTo, getD-listTo}
 use Rattle.algebra.proofs.Within.{within--, each-of, each-≤}
 use Rattle.element.specs.Kinds.{Kind, six, eight, nine, nodeCount, kindOf, NotKind, coordinateLimit, scale}
-use Rattle.element.specs.Nodes.{place8}
+use Rattle.element.specs.Plane.{_-ᵥ_}
+use Rattle.element.specs.Nodes.{node, place8}
 use Rattle.element.specs.Places.{Place}
 use Rattle.element.specs.Jacobian.{slopeξ, slopeη, J6, slopeU, slopeV, J9, fourfold8, J8, jacobian}
 use Rattle.element.specs.Control.{controlValues, at}
-use Rattle.element.specs.Origin.{movedBy, fromFirst, Inside}
+use Rattle.element.specs.Origin.{byAxis, movedBy, fromFirst, Inside}
+use Rattle.element.proofs.Plane.{vec-eq}
 use Rattle.element.proofs.Formulas as E
 use Rattle.element.proofs.Sums.{nodeE, A9E, A8E, numbers}
 use Rattle.element.proofs.Places.{control-is-J}
@@ -37,14 +41,13 @@ use Rattle.element.proofs.Values.{values-length, values-only}
 
 -- ---- place by place
 pub moved-length : (a b : ℤ) (xs : List ℤ) → length (movedBy a b xs) ≡ length xs
-moved-length a b xs = length-listTo (length xs) (λ k. at xs k -ℤ cond (eqb (k % 2) 0) a b)
+moved-length a b xs = length-listTo (length xs) (λ k. at xs k -ℤ byAxis a b k)
 
-pub moved-at : (a b : ℤ) (xs : List ℤ) (k : ℕ) → k < length xs → at (movedBy a b xs) k ≡ at xs k -ℤ cond (eqb (k % 2) 0) a b
-moved-at a b xs k h = getD-listTo (length xs) (λ k. at xs k -ℤ cond (eqb (k % 2) 0) a b) k h
+pub moved-at : (a b : ℤ) (xs : List ℤ) (k : ℕ) → k < length xs → at (movedBy a b xs) k ≡ at xs k -ℤ byAxis a b k
+moved-at a b xs k h = getD-listTo (length xs) (λ k. at xs k -ℤ byAxis a b k) k h
 
--- the first node's number along the axis of place k
-along-at : (xs : List ℤ) (k : ℕ) → at xs (k % 2) ≡ cond (eqb (k % 2) 0) (at xs 0) (at xs 1)
-along-at xs k = go (k % 2) (let h : k % 2 < 2 = omega arith in h)
+pub axis-at : (xs : List ℤ) (k : ℕ) → at xs (k % 2) ≡ byAxis (at xs 0) (at xs 1) k
+axis-at xs k = go (k % 2) (let h : k % 2 < 2 = omega arith in h)
   where
     go : (r : ℕ) → r < 2 → at xs r ≡ cond (eqb r 0) (at xs 0) (at xs 1)
     go zero h = refl
@@ -52,8 +55,24 @@ along-at xs k = go (k % 2) (let h : k % 2 < 2 = omega arith in h)
     go (suc (suc r)) h = absurd (omega arith)
 
 pub first-at : (xs : List ℤ) (k : ℕ) → k < length xs → at (fromFirst xs) k ≡ at xs k -ℤ at xs (k % 2)
-first-at xs k h = moved-at (at xs 0) (at xs 1) xs k h ∙ ap (λ z. at xs k -ℤ z) (sym (along-at xs k))
+first-at xs k h = moved-at (at xs 0) (at xs 1) xs k h ∙ ap (λ z. at xs k -ℤ z) (sym (axis-at xs k))
 
+-- ---- node by node
+axis-x : (a b : ℤ) (k : ℕ) → byAxis a b (2 * k) ≡ a
+axis-x a b k = ap (λ m. cond (eqb m 0) a b) (let e : 2 * k % 2 ≡ 0 = omega arith in e)
+
+axis-y : (a b : ℤ) (k : ℕ) → byAxis a b (2 * k + 1) ≡ b
+axis-y a b k = ap (λ m. cond (eqb m 0) a b) (let e : (2 * k + 1) % 2 ≡ 1 = omega arith in e)
+
+pub moved-node : (a b : ℤ) (xs : List ℤ) (k : ℕ) → 2 * k + 1 < length xs → node (movedBy a b xs) k ≡ node xs k -ᵥ record { x = a; y = b }
+moved-node a b xs k h =
+    vec-eq (moved-at a b xs (2 * k) (omega arith) ∙ ap (λ z. at xs (2 * k) -ℤ z) (axis-x a b k))
+    (moved-at a b xs (2 * k + 1) h ∙ ap (λ z. at xs (2 * k + 1) -ℤ z) (axis-y a b k))
+
+pub first-node : (xs : List ℤ) (k : ℕ) → 2 * k + 1 < length xs → node (fromFirst xs) k ≡ node xs k -ᵥ node xs 0
+first-node xs k h = moved-node (at xs 0) (at xs 1) xs k h
+
+-- ---- from the first node
 pub first-length : (xs : List ℤ) → length (fromFirst xs) ≡ length xs
 first-length xs = moved-length (at xs 0) (at xs 1) xs
 
@@ -65,7 +84,7 @@ first-moved a b xs =
   where
     go : (k : ℕ) → k < length xs → at (fromFirst (movedBy a b xs)) k ≡ at (fromFirst xs) k
     go k h =
-        let c = cond (eqb (k % 2) 0) a b in
+        let c = byAxis a b k in
         let l : k % 2 < length xs = omega arith in
         let e : k % 2 % 2 ≡ k % 2 = omega arith in
         first-at (movedBy a b xs) k (rw (moved-length a b xs) h)

@@ -1,5 +1,6 @@
 -- Elements far from the origin (02, Ask 7: "the coordinates are accepted if all lie within the kind's limit, as before, or if every
 -- node's difference from the first node, in x and in y, does").
+--   byAxis a b k   == a at a place of the list that has an x, b at one that has a y
 --   movedBy a b xs == the list with a taken from each x and b from each y
 --   fromFirst xs   == each node's difference from the first node
 --   Ranged n xs    == all lie within n, as they stand or from the first node
@@ -21,8 +22,11 @@ use Rattle.element.specs.Kinds.{Kind, nodeCount, coordinateLimit}
 use Rattle.element.specs.Control.{at}
 
 -- "x then y for each node": x stands at the even places
+abbrev pub byAxis : ℤ → ℤ → ℕ → ℤ
+byAxis a b k = cond (eqb (k % 2) 0) a b
+
 abbrev pub movedBy : ℤ → ℤ → List ℤ → List ℤ
-movedBy a b xs = listTo (length xs) (λ k. at xs k -ℤ cond (eqb (k % 2) 0) a b)
+movedBy a b xs = listTo (length xs) (λ k. at xs k -ℤ byAxis a b k)
 
 abbrev pub fromFirst : List ℤ → List ℤ
 fromFirst xs = movedBy (at xs 0) (at xs 1) xs

@@ -19,7 +19,8 @@ pub fn known(kind: u8) -> bool
     kind == 9
 }
 
-// Whether all coordinates are within the limit of the kind, as they stand or from the first node. Each limit stands in a call, so that none is looked up for a coordinate.
+// Whether all coordinates are within the limit of the kind, as they stand or from the first node. Each limit stands in a call, so that none
+// is looked up for a coordinate.
 pub fn inside(kind: u8, coords: &[i32]) -> bool
     ensures yes { λ r. ⌜ (r ≡ true → ¬ Outside (kindOf kind) (now (coords .entry))) ⌝ }
     ensures no { λ r. ⌜ (r ≡ false → Outside (kindOf kind) (now (coords .entry))) ⌝ }

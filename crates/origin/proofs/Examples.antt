@@ -1,30 +1,71 @@
--- At the ends of i32 and of the limits: what `verdict` accepts, and what it refuses with 4, for each kind.
---   lowest-taken, highest-taken, twice-taken : accepted under every limit of the kind
---   wider-refused, taller-refused, across-refused, wrapped-refused : 4 under each of them
+-- At the ends of i32 and of the limits: what `verdict` answers, for each kind and under every limit of the kind.
+--   box-nodes      : a box of each kind, node by node
+--   ends-of        : where the boxes reach
+--   lowest-valid, highest-valid, twice-valid : these are valid at level 0, with one cell
+--   wider-refused, taller-refused, across-refused, wrapped-refused : these have code 4
 -- Assumes nothing.
-use mathlib.Core.Path.{_≡_, refl}
+use mathlib.Core.Path.{_≡_, refl, subst}
 use mathlib.Core.Bool.{Bool, true, _&&_}
 use mathlib.Core.List.{List, [], _∷_}
 use mathlib.Core.Logic.{inl, inr}
-use Prim.Native.Nat.{ℕ, zero, suc, _*_, _≤_}
+use Prim.Native.Nat.{ℕ, zero, suc, _+_, _*_, _-_, _≤_, zero-le}
 use native.Mathlib.Nat as N
 use lib.Dec.{T, leb, lit<, leb→le}
-use lib.IntN.{ℤ}
+use lib.IntN.{ℤ, pos, negℤ}
 use lib.ListN.{length}
 use lib.Signed.{mag}
 use Rattle.algebra.specs.Within.{Each}
 use Rattle.algebra.proofs.Truth.{T-and}
+use Rattle.forms.specs.Rows.{weigh}
+use Rattle.forms.specs.Forms.{value}
+use Rattle.forms.specs.Shapes.{scaled}
+use Rattle.forms.specs.Cuttings.{leaves, level, opens, greedy}
 use Rattle.element.specs.Kinds.{Kind, six, eight, nine, nodeCount, kindOf, coordinateLimit, greatestLevel}
-use Rattle.element.specs.Control.{at}
+use Rattle.element.specs.Control.{at, values6, value as controlValue, controlValues}
 use Rattle.element.specs.Origin.{fromFirst, Held}
 use Rattle.element.specs.Refusals.{Accepted, Outside, verdictCodes}
 use Rattle.element.proofs.Ranges.{ranged-inside}
+use Rattle.judge.specs.Verdict.{Word, is-valid, Judges}
 use Rattle.judge.specs.Elements.{subject}
-use Rattle.verdict.specs.Calls.{refusal, VerdictOf}
+use Rattle.judge.proofs.Faithful.{element-faithful}
+use Rattle.judge.proofs.Demands.{limit-keeps}
+use Rattle.judge.proofs.Search.{least}
+use Rattle.judge.proofs.Computed.{low, inRow, rowLow, firstRow, cellsOf, least-count, inRowTold, from, verdict, verdict-is}
+use Rattle.verdict.specs.Calls.{tell, given, refusal, VerdictOf, Only, Settled}
 use Rattle.verdict.specs.declared.Judged.{Judged}
 use Rattle.verdict.proofs.Judging.{refused-told}
-use Rattle.verdict.proofs.Twelve.{allWithin, within-at, kind-of-nodes, is-kind}
-use Rattle.origin.proofs.Boxes.{lowest, highest, wider, taller, twice, across, wrapped}
+use Rattle.verdict.proofs.Twelve.{allWithin, within-at, kind-of-nodes, is-kind, accepted-called}
+use Rattle.origin.specs.Boxes.{box, lowest, highest, wider, taller, twice, across, wrapped, ends}
+
+-- ---- what the boxes are
+pub box-nodes : (box six (pos 10) (pos 20) 6 8
+    ≡ pos 10 ∷ pos 20 ∷ pos 16 ∷ pos 20 ∷ pos 10 ∷ pos 28 ∷ pos 13 ∷ pos 20 ∷ pos 13 ∷ pos 24 ∷ pos 10 ∷ pos 24 ∷ [])
+    × (box eight (pos 10) (pos 20) 6 8
+    ≡ pos 10 ∷ pos 20 ∷ pos 13 ∷ pos 20 ∷ pos 16 ∷ pos 20 ∷ pos 10 ∷ pos 24 ∷ pos 16 ∷ pos 24 ∷ pos 10 ∷ pos 28 ∷ pos 13 ∷ pos 28 ∷ pos 16 ∷ pos 28 ∷ [])
+    × (box nine (pos 10) (pos 20) 6 8
+    ≡ pos 10 ∷ pos 20 ∷ pos 13 ∷ pos 20 ∷ pos 16 ∷ pos 20 ∷ pos 10 ∷ pos 24 ∷ pos 13 ∷ pos 24 ∷ pos 16 ∷ pos 24 ∷ pos 10 ∷ pos 28 ∷ pos 13 ∷ pos 28 ∷ pos 16 ∷ pos 28 ∷ [])
+box-nodes = (refl, refl, refl)
+
+abbrev n : ℕ → ℤ
+n m = negℤ (pos m)
+
+abbrev reach : Kind → List (List ℤ)
+reach k =
+    ends k (lowest k) ∷ ends k (highest k) ∷ ends k (wider k) ∷ ends k (taller k) ∷ ends k (twice k) ∷ ends k (across k) ∷ ends k (wrapped k) ∷ []
+
+pub ends-of : (k : Kind) → let c = coordinateLimit k in
+    reach k
+    ≡ (n 2147483648 ∷ n 2147483648 ∷ n (2147483648 - c) ∷ n (2147483648 - c) ∷ [])
+    ∷ (pos (2147483647 - c) ∷ pos (2147483647 - c) ∷ pos 2147483647 ∷ pos 2147483647 ∷ [])
+    ∷ (n 2147483648 ∷ n 2147483648 ∷ n (2147483647 - c) ∷ n (2147483648 - c) ∷ [])
+    ∷ (pos (2147483647 - c) ∷ pos (2147483646 - c) ∷ pos 2147483647 ∷ pos 2147483647 ∷ [])
+    ∷ (n c ∷ n c ∷ pos c ∷ pos c ∷ [])
+    ∷ (n c ∷ n 2147483648 ∷ pos c ∷ n (2147483648 - c) ∷ [])
+    ∷ (n 2147483648 ∷ pos 0 ∷ pos 2147483647 ∷ pos c ∷ [])
+    ∷ []
+ends-of six = refl
+ends-of eight = refl
+ends-of nine = refl
 
 -- ---- tests that compute
 abbrev allHeld : List ℤ → Bool
@@ -36,17 +77,8 @@ held-at [] t i = lit< tt
 held-at (z ∷ xs) t zero = leb→le (suc (mag z)) 2147483648 (T-and (leb (suc (mag z)) 2147483648) (allHeld xs) t .0)
 held-at (z ∷ xs) t (suc i) = held-at xs (T-and (leb (suc (mag z)) 2147483648) (allHeld xs) t .1) i
 
-each-of : (n : ℕ) (xs : List ℤ) → T (allWithin n xs) → Each n xs
-each-of n xs t = record { at = λ i. record { size = within-at n xs t i } }
-
-module _ (k : Kind) (xs : List ℤ) (l : ℕ) where
-  taken : l ≤ greatestLevel k → length xs ≡ 2 * nodeCount k → ¬ Outside k xs → Accepted (verdictCodes (nodeCount k) l xs)
-  taken h e f = rw (kind-of-nodes k) (is-kind k, ((λ g. N.not-le-of-lt g h), ((λ g. g e), (f, tt))))
-
-  refused : l ≤ greatestLevel k → length xs ≡ 2 * nodeCount k → Outside k xs → (r : Judged) → VerdictOf (nodeCount k) l xs r → r ≡ refusal 4
-  refused h e o r v =
-      refused-told (verdictCodes (nodeCount k) l xs) (subject (kindOf (nodeCount k)) xs) l 4
-      (rw (kind-of-nodes k) (inr (is-kind k, inr ((λ g. N.not-le-of-lt g h), inr ((λ g. g e), inl (o, refl)))))) r v
+each-of : (m : ℕ) (xs : List ℤ) → T (allWithin m xs) → Each m xs
+each-of m xs t = record { at = λ i. record { size = within-at m xs t i } }
 
 far : (k : Kind) (xs : List ℤ) → T (allWithin (coordinateLimit k) (fromFirst xs)) → T (allHeld xs) → ¬ Outside k xs
 far k xs s t =
@@ -55,40 +87,58 @@ far k xs s t =
 near : (k : Kind) (xs : List ℤ) → T (allWithin (coordinateLimit k) xs) → T (allHeld xs) → ¬ Outside k xs
 near k xs s t = ranged-inside (coordinateLimit k) xs (λ (i, h, f). f (held-at xs t i)) (inl (each-of (coordinateLimit k) xs s))
 
--- ---- accepted, and refused
+module _ (l : ℕ) (k : Kind) (h : l ≤ greatestLevel k) (xs : List ℤ) (e : length xs ≡ 2 * nodeCount k) where
+  accepted : ¬ Outside k xs → Accepted (verdictCodes (nodeCount k) l xs)
+  accepted f = rw (kind-of-nodes k) (is-kind k, ((λ g. N.not-le-of-lt g h), ((λ g. g e), (f, tt))))
+
+  valid-box : ¬ Outside k xs → verdict (subject k xs) 0 ≡ is-valid 0 1 → Only (VerdictOf (nodeCount k) l xs) (given (is-valid 0 1))
+  valid-box f c =
+      let faith = element-faithful k xs in
+      let at-0 : Judges (subject k xs) 0 (is-valid 0 1) = subst (Judges (subject k xs) 0) c (verdict-is (subject k xs) faith 0) in
+      accepted-called k l xs (is-valid 0 1) (accepted f) (limit-keeps (subject k xs) faith 0 l (is-valid 0 1) (λ w. subst (λ (v : Word). Settled (tell v)) w tt) zero-le at-0)
+
+  refused : Outside k xs → (r : Judged) → VerdictOf (nodeCount k) l xs r → r ≡ refusal 4
+  refused o r v =
+      refused-told (verdictCodes (nodeCount k) l xs) (subject (kindOf (nodeCount k)) xs) l 4
+      (rw (kind-of-nodes k) (inr (is-kind k, inr ((λ g. N.not-le-of-lt g h), inr ((λ g. g e), inl (o, refl)))))) r v
+
+-- ---- accepted
 module _ (l : ℕ) where
-  pub lowest-taken : (k : Kind) → l ≤ greatestLevel k → Accepted (verdictCodes (nodeCount k) l (lowest k))
-  lowest-taken six h = taken six (lowest six) l h refl (far six (lowest six) tt tt)
-  lowest-taken eight h = taken eight (lowest eight) l h refl (far eight (lowest eight) tt tt)
-  lowest-taken nine h = taken nine (lowest nine) l h refl (far nine (lowest nine) tt tt)
+  pub lowest-valid : (k : Kind) → l ≤ greatestLevel k → Only (VerdictOf (nodeCount k) l (lowest k)) (given (is-valid 0 1))
+  unfolding verdict from inRowTold least-count cellsOf firstRow rowLow inRow low least scaled value weigh leaves level greedy opens controlValues values6 controlValue
+  lowest-valid six h = valid-box l six h (lowest six) refl (far six (lowest six) tt tt) refl
+  lowest-valid eight h = valid-box l eight h (lowest eight) refl (far eight (lowest eight) tt tt) refl
+  lowest-valid nine h = valid-box l nine h (lowest nine) refl (far nine (lowest nine) tt tt) refl
 
-  pub highest-taken : (k : Kind) → l ≤ greatestLevel k → Accepted (verdictCodes (nodeCount k) l (highest k))
-  highest-taken six h = taken six (highest six) l h refl (far six (highest six) tt tt)
-  highest-taken eight h = taken eight (highest eight) l h refl (far eight (highest eight) tt tt)
-  highest-taken nine h = taken nine (highest nine) l h refl (far nine (highest nine) tt tt)
+  pub highest-valid : (k : Kind) → l ≤ greatestLevel k → Only (VerdictOf (nodeCount k) l (highest k)) (given (is-valid 0 1))
+  unfolding verdict from inRowTold least-count cellsOf firstRow rowLow inRow low least scaled value weigh leaves level greedy opens controlValues values6 controlValue
+  highest-valid six h = valid-box l six h (highest six) refl (far six (highest six) tt tt) refl
+  highest-valid eight h = valid-box l eight h (highest eight) refl (far eight (highest eight) tt tt) refl
+  highest-valid nine h = valid-box l nine h (highest nine) refl (far nine (highest nine) tt tt) refl
 
-  pub twice-taken : (k : Kind) → l ≤ greatestLevel k → Accepted (verdictCodes (nodeCount k) l (twice k))
-  twice-taken six h = taken six (twice six) l h refl (near six (twice six) tt tt)
-  twice-taken eight h = taken eight (twice eight) l h refl (near eight (twice eight) tt tt)
-  twice-taken nine h = taken nine (twice nine) l h refl (near nine (twice nine) tt tt)
+  pub twice-valid : (k : Kind) → l ≤ greatestLevel k → Only (VerdictOf (nodeCount k) l (twice k)) (given (is-valid 0 1))
+  unfolding verdict from inRowTold least-count cellsOf firstRow rowLow inRow low least scaled value weigh leaves level greedy opens controlValues values6 controlValue
+  twice-valid six h = valid-box l six h (twice six) refl (near six (twice six) tt tt) refl
+  twice-valid eight h = valid-box l eight h (twice eight) refl (near eight (twice eight) tt tt) refl
+  twice-valid nine h = valid-box l nine h (twice nine) refl (near nine (twice nine) tt tt) refl
 
   -- ---- refused
   pub wider-refused : (k : Kind) → l ≤ greatestLevel k → (r : Judged) → VerdictOf (nodeCount k) l (wider k) r → r ≡ refusal 4
-  wider-refused six h = refused six (wider six) l h refl ((0, lit< tt, lit< tt), inl (2, lit< tt, lit< tt))
-  wider-refused eight h = refused eight (wider eight) l h refl ((0, lit< tt, lit< tt), inl (4, lit< tt, lit< tt))
-  wider-refused nine h = refused nine (wider nine) l h refl ((0, lit< tt, lit< tt), inl (4, lit< tt, lit< tt))
+  wider-refused six h = refused l six h (wider six) refl ((0, lit< tt, lit< tt), inl (2, lit< tt, lit< tt))
+  wider-refused eight h = refused l eight h (wider eight) refl ((0, lit< tt, lit< tt), inl (4, lit< tt, lit< tt))
+  wider-refused nine h = refused l nine h (wider nine) refl ((0, lit< tt, lit< tt), inl (4, lit< tt, lit< tt))
 
   pub taller-refused : (k : Kind) → l ≤ greatestLevel k → (r : Judged) → VerdictOf (nodeCount k) l (taller k) r → r ≡ refusal 4
-  taller-refused six h = refused six (taller six) l h refl ((0, lit< tt, lit< tt), inl (5, lit< tt, lit< tt))
-  taller-refused eight h = refused eight (taller eight) l h refl ((0, lit< tt, lit< tt), inl (11, lit< tt, lit< tt))
-  taller-refused nine h = refused nine (taller nine) l h refl ((0, lit< tt, lit< tt), inl (13, lit< tt, lit< tt))
+  taller-refused six h = refused l six h (taller six) refl ((0, lit< tt, lit< tt), inl (5, lit< tt, lit< tt))
+  taller-refused eight h = refused l eight h (taller eight) refl ((0, lit< tt, lit< tt), inl (11, lit< tt, lit< tt))
+  taller-refused nine h = refused l nine h (taller nine) refl ((0, lit< tt, lit< tt), inl (13, lit< tt, lit< tt))
 
   pub across-refused : (k : Kind) → l ≤ greatestLevel k → (r : Judged) → VerdictOf (nodeCount k) l (across k) r → r ≡ refusal 4
-  across-refused six h = refused six (across six) l h refl ((1, lit< tt, lit< tt), inl (2, lit< tt, lit< tt))
-  across-refused eight h = refused eight (across eight) l h refl ((1, lit< tt, lit< tt), inl (4, lit< tt, lit< tt))
-  across-refused nine h = refused nine (across nine) l h refl ((1, lit< tt, lit< tt), inl (4, lit< tt, lit< tt))
+  across-refused six h = refused l six h (across six) refl ((1, lit< tt, lit< tt), inl (2, lit< tt, lit< tt))
+  across-refused eight h = refused l eight h (across eight) refl ((1, lit< tt, lit< tt), inl (4, lit< tt, lit< tt))
+  across-refused nine h = refused l nine h (across nine) refl ((1, lit< tt, lit< tt), inl (4, lit< tt, lit< tt))
 
   pub wrapped-refused : (k : Kind) → l ≤ greatestLevel k → (r : Judged) → VerdictOf (nodeCount k) l (wrapped k) r → r ≡ refusal 4
-  wrapped-refused six h = refused six (wrapped six) l h refl ((0, lit< tt, lit< tt), inl (2, lit< tt, lit< tt))
-  wrapped-refused eight h = refused eight (wrapped eight) l h refl ((0, lit< tt, lit< tt), inl (4, lit< tt, lit< tt))
-  wrapped-refused nine h = refused nine (wrapped nine) l h refl ((0, lit< tt, lit< tt), inl (4, lit< tt, lit< tt))
+  wrapped-refused six h = refused l six h (wrapped six) refl ((0, lit< tt, lit< tt), inl (2, lit< tt, lit< tt))
+  wrapped-refused eight h = refused l eight h (wrapped eight) refl ((0, lit< tt, lit< tt), inl (4, lit< tt, lit< tt))
+  wrapped-refused nine h = refused l nine h (wrapped nine) refl ((0, lit< tt, lit< tt), inl (4, lit< tt, lit< tt))

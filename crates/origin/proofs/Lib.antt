@@ -5,5 +5,4 @@ pub mod Values
 pub mod Verdicts
 pub mod Sheets
 pub mod Accepts
-pub mod Boxes
 pub mod Examples

@@ -1,5 +1,4 @@
 -- Orders of codes of two lists that have no fault of their own.
---   Sound n xs     == the list has two numbers for each of n nodes, and they are within the limit, as they stand or from the first node
 --   past-refused, refused-past, past-accepted, accepted-past : only the codes behind those of the list count
 --   verdict-refused, verdict-accepted : `verdict` refuses and accepts the two alike
 -- n is the number given as the kind. Assumes nothing.
@@ -8,9 +7,7 @@ use mathlib.Core.Logic.{inl, inr}
 use Prim.Native.Nat.{ℕ}
 use lib.IntN.{ℤ}
 use Rattle.element.specs.Refusals.{Codes, no-more, Refused, Accepted, elementCodes, verdictCodes}
-
-abbrev pub Sound : ℕ → List ℤ → Type 0
-Sound n xs = Accepted (elementCodes n xs no-more)
+use Rattle.origin.specs.Lists.{Sound}
 
 module _ (n : ℕ) (xs : List ℤ) (o : Codes ℕ) (s : Sound n xs) where
   pub past-refused : (c : ℕ) → Refused (elementCodes n xs o) c → Refused o c

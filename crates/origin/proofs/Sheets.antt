@@ -22,7 +22,8 @@ use Rattle.sheet.specs.declared.CheckedSheet.{CheckedSheet}
 use Rattle.sheet.specs.declared.WrittenSheet.{WrittenSheet}
 use Rattle.sheet.proofs.Checker.{check-unique}
 use Rattle.sheet.proofs.Writer.{write-unique}
-use Rattle.origin.proofs.Orders.{Sound, past-refused, refused-past, past-accepted, accepted-past, verdict-accepted}
+use Rattle.origin.specs.Lists.{Sound}
+use Rattle.origin.proofs.Orders.{past-refused, refused-past, past-accepted, accepted-past, verdict-accepted}
 use Rattle.origin.proofs.Subjects.{valid-same}
 use Rattle.origin.proofs.Values.{element-values}
 

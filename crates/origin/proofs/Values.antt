@@ -20,7 +20,8 @@ use Rattle.control.specs.Calls.{controlled, ControlValues, codeOf, SolverBounds
 use Rattle.control.specs.declared.Controlled.{Controlled}
 use Rattle.control.specs.declared.Bounded.{Bounded}
 use Rattle.control.proofs.Outcomes.{control-values-unique, solver-bounds-unique}
-use Rattle.origin.proofs.Orders.{Sound, past-refused, refused-past, past-accepted, accepted-past}
+use Rattle.origin.specs.Lists.{Sound}
+use Rattle.origin.proofs.Orders.{past-refused, refused-past, past-accepted, accepted-past}
 
 module _ (n : ℕ) (xs : List ℤ) (a b : ℤ) (s : Sound n xs) where
   pub kind-long : ¬ NotKind n → length xs ≡ 2 * nodeCount (kindOf n)

@@ -25,7 +25,8 @@ use Rattle.floor.specs.Calls.{NoPercent, NotPositive, floorCodes, FloorOf}
 use Rattle.floor.proofs.Still.{straight-moved, shifted-moved}
 use Rattle.floor.proofs.Parts.{six-of, small}
 use Rattle.floor.proofs.Outcomes.{floor-unique}
-use Rattle.origin.proofs.Orders.{Sound, past-refused, refused-past, past-accepted, accepted-past, verdict-refused, verdict-accepted}
+use Rattle.origin.specs.Lists.{Sound}
+use Rattle.origin.proofs.Orders.{past-refused, refused-past, past-accepted, accepted-past, verdict-refused, verdict-accepted}
 use Rattle.origin.proofs.Subjects.{told-same}
 use Rattle.origin.proofs.Values.{kind-long, element-values}
 

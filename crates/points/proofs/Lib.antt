@@ -1,4 +1,4 @@
 pub mod Points
 pub mod Wider
 pub mod First
-pub mod Sofar
+pub mod Limits

@@ -7,6 +7,7 @@ ghost use lib.IntN.{_-ℤ_, _*ℤ_};
 ghost use lib.ListN.{length};
 ghost use Rattle.algebra.specs.Within.{Within, Each};
 ghost use Rattle.element.specs.Control.{at};
+ghost use Rattle.element.specs.Origin as origin;
 ghost use Rattle.element.specs.Origin.{fromFirst, Held, Unheld};
 ghost use Rattle.element.specs.Refusals.{Beyond, Astray};
 ghost use Rattle.points.specs.Points as spec;
@@ -36,13 +37,14 @@ fn less(xs: &[i32], k: usize, from: i64) -> i64
     0
 }
 
-// The coordinate at place k minus the first node's along its axis.
-fn difference(xs: &[i32], k: usize) -> i64
-    ensures value { λ r. ⌜ r ≡ at (fromFirst (now (xs .entry))) k ⌝ }
-    ensures held { λ r. ⌜ Held (at (now (xs .entry)) k) ⌝ }
+// Of a number for x and one for y the one for place k.
+fn by_axis(x: i64, y: i64, k: usize) -> i64
+    ensures { λ r. ⌜ r ≡ origin.byAxis x y k ⌝ }
 {
-    let first: [usize; 2] = [0, 1];
-    less(xs, k, coord(xs, first[k % 2]))
+    if k % 2 == 0 {
+        return x;
+    }
+    y
 }
 
 // The place in the list of node k: from the gap on, nodes stand one earlier.
@@ -98,10 +100,12 @@ fn near(xs: &[i32], limit: u32) -> bool
 {
     let most = limit as i64;
     let least = 0 - most;
+    let x = coord(xs, 0);
+    let y = coord(xs, 1);
     let mut close = true;
     let mut i = 0;
     while i < xs.len() {
-        let d = difference(xs, i);
+        let d = less(xs, i, by_axis(x, y, i));
         close = close & (d <= most) & (least <= d);
         i += 1;
     }

@@ -3,7 +3,7 @@
 --   listed, list-accepted : a list of coordinates that a kind takes as they stand, as a test
 --   kind-of-nodes, is-kind : a kind and its number
 --   accepts, accepted-kind : an element of a kind is accepted, by tests that compute
---   element-called   : the call then has the element's verdict as its answer, and no other
+--   accepted-called, element-called : the call then has the element's verdict as its answer, and no other
 --   twelve-called    : the claim, for the whole list
 -- Assumes nothing.
 use mathlib.Core.Path.{_≡_, refl, sym, subst}
@@ -66,19 +66,24 @@ accepted-kind k l xs t =
     rw (kind-of-nodes k)
     (is-kind k, (level, (many, (inside, tt))))
 
-pub element-called : (k : Kind) (l : ℕ) (xs : List ℤ) (a : Answer) → T (accepts k l xs)
+pub accepted-called : (k : Kind) (l : ℕ) (xs : List ℤ) (a : Answer) → Accepted (verdictCodes (nodeCount k) l xs)
     → Judges (subject k xs) l a
     → Only (VerdictOf (nodeCount k) l xs) (given a)
-element-called k l xs a t j = record { allowed = v; no-other = λ s w. verdict-unique (nodeCount k) l xs s (given a) w v }
+accepted-called k l xs a t j = record { allowed = v; no-other = λ s w. verdict-unique (nodeCount k) l xs s (given a) w v }
   where
     v : VerdictOf (nodeCount k) l xs (given a)
     v =
         inr (record {
-          accepted = accepted-kind k l xs t;
+          accepted = t;
           answer = a;
           judges = subst (λ (x : Kind). Judges (subject x xs) l a) (sym (kind-of-nodes k)) j;
           told = refl;
         })
+
+pub element-called : (k : Kind) (l : ℕ) (xs : List ℤ) (a : Answer) → T (accepts k l xs)
+    → Judges (subject k xs) l a
+    → Only (VerdictOf (nodeCount k) l xs) (given a)
+element-called k l xs a t j = accepted-called k l xs a (accepted-kind k l xs t) j
 
 -- ---- the list
 abbrev allAccepted : List Row → Bool

@@ -11,12 +11,12 @@ use mir.Syntax.{w32}
 use mir.Val.{toZ, ofZ}
 use Rattle.algebra.specs.Within.{Is}
 use Rattle.algebra.proofs.Within.{stored, named, lit, i-sub, fits}
-use Rattle.points.proofs.Sofar.{Sofar, sofar-none, sofar-more, sofar-each, sofar-beyond}
+use Rattle.points.proofs.Limits.{InLimit, limit-none, limit-more, limit-each, limit-beyond}
 use Rattle.points.proofs.within.Statement.{statement}
 use Rattle.points.proofs.within.Tie as tie
 
 abbrev Inv-loop : tie.InvT-loop
-Inv-loop xs limit most least all₀ k₀ all k = (k ≤ length xs) × Sofar xs limit k all
+Inv-loop xs limit most least all₀ k₀ all k = (k ≤ length xs) × InLimit xs limit k all
 
 abbrev μ-loop : tie.MeasureT-loop
 μ-loop xs limit most least all₀ k₀ all k = length xs - k
@@ -37,7 +37,7 @@ sub-least : tie.Need-sub-least Inv-loop μ-loop
 sub-least c = fits (i-sub (lit 0) (most-is c)) tt
 
 loop-holds : tie.Need-loop-holds Inv-loop μ-loop
-loop-holds c = (omega arith, sofar-none _ _)
+loop-holds c = (omega arith, limit-none _ _)
 
 mul-x : tie.Need-mul-x Inv-loop μ-loop
 mul-x c = search needs
@@ -56,11 +56,11 @@ loop-again c =
     let start = c .before .before .before in let turn = c .before .before .loop in let v = start .args .xs .now in
     let e : toZ w32 (ofZ w32 (getD v (turn .k) (pos 0))) ≡ getD v (turn .k) (pos 0) = search needs in (
       omega arith,
-      sofar-more v (start .args .limit) (turn .k) (turn .all) _ _ (turn .inv .1) (ap₂ leZ e (most-is start .same)) (ap₂ leZ (least-is start .same) e),
+      limit-more v (start .args .limit) (turn .k) (turn .all) _ _ (turn .inv .1) (ap₂ leZ e (most-is start .same)) (ap₂ leZ (least-is start .same) e),
     )
 
 returns : tie.Need-returns Inv-loop μ-loop
-returns c = (sofar-each (c .before .loop .inv .1) (omega arith), sofar-beyond (c .before .loop .inv .1) (omega arith))
+returns c = (limit-each (c .before .loop .inv .1) (omega arith), limit-beyond (c .before .loop .inv .1) (omega arith))
 
 pub within-spec : {M : Type 1} → statement M
 within-spec =
