@@ -5,25 +5,25 @@
 --   wider-refused, taller-refused, across-refused, wrapped-refused : these have code 4
 -- Assumes nothing.
 use mathlib.Core.Path.{_≡_, refl, subst}
-use mathlib.Core.Bool.{Bool, true, _&&_}
+use mathlib.Core.Bool.{Bool, true, _&&_, _||_}
 use mathlib.Core.List.{List, [], _∷_}
 use mathlib.Core.Logic.{inl, inr}
 use Prim.Native.Nat.{ℕ, zero, suc, _+_, _*_, _-_, _≤_, zero-le}
 use native.Mathlib.Nat as N
-use lib.Dec.{T, leb, lit<, leb→le}
-use lib.IntN.{ℤ, pos, negℤ}
+use lib.Dec.{T, leb, ltb, eqb, lit<, leb→le, ltb→lt, eqb→eq}
+use lib.IntN.{ℤ, pos, negℤ, natAbs}
 use lib.ListN.{length}
 use lib.Signed.{mag}
 use Rattle.algebra.specs.Within.{Each}
-use Rattle.algebra.proofs.Truth.{T-and}
+use Rattle.algebra.proofs.Truth.{T-and, T-or}
 use Rattle.forms.specs.Rows.{weigh}
 use Rattle.forms.specs.Forms.{value}
 use Rattle.forms.specs.Shapes.{scaled}
 use Rattle.forms.specs.Cuttings.{leaves, level, opens, greedy}
 use Rattle.element.specs.Kinds.{Kind, six, eight, nine, nodeCount, kindOf, coordinateLimit, greatestLevel}
 use Rattle.element.specs.Control.{at, values6, value as controlValue, controlValues}
-use Rattle.element.specs.Origin.{fromFirst, Held}
-use Rattle.element.specs.Refusals.{Accepted, Outside, verdictCodes}
+use Rattle.element.specs.Origin.{fromFirst, Ranged, Held}
+use Rattle.element.specs.Refusals.{Accepted, Beyond, Outside, verdictCodes}
 use Rattle.element.proofs.Ranges.{ranged-inside}
 use Rattle.judge.specs.Verdict.{Word, is-valid, Judges}
 use Rattle.judge.specs.Elements.{subject}
@@ -35,7 +35,7 @@ use Rattle.verdict.specs.Calls.{tell, given, refusal, VerdictOf, Only, Settled}
 use Rattle.verdict.specs.declared.Judged.{Judged}
 use Rattle.verdict.proofs.Judging.{refused-told}
 use Rattle.verdict.proofs.Twelve.{allWithin, within-at, kind-of-nodes, is-kind, accepted-called}
-use Rattle.origin.specs.Boxes.{box, lowest, highest, wider, taller, twice, across, wrapped, ends}
+use Rattle.origin.specs.Boxes.{box, lowest, highest, wider, taller, twice, across, wrapped, right, top, ends}
 
 -- ---- what the boxes are
 pub box-nodes : (box six (pos 10) (pos 20) 6 8
@@ -68,6 +68,17 @@ ends-of eight = refl
 ends-of nine = refl
 
 -- ---- tests that compute
+abbrev ofAll : (Kind → Bool) → Bool
+ofAll f = f six && (f eight && f nine)
+
+each-kind : (f : Kind → Bool) → T (ofAll f) → (k : Kind) → T (f k)
+each-kind f t six = T-and (f six) (f eight && f nine) t .0
+each-kind f t eight = T-and (f eight) (f nine) (T-and (f six) (f eight && f nine) t .1) .0
+each-kind f t nine = T-and (f eight) (f nine) (T-and (f six) (f eight && f nine) t .1) .1
+
+abbrev sized : Kind → List ℤ → Bool
+sized k xs = eqb (length xs) (2 * nodeCount k)
+
 abbrev allHeld : List ℤ → Bool
 allHeld [] = true
 allHeld (z ∷ xs) = leb (suc (mag z)) 2147483648 && allHeld xs
@@ -80,65 +91,96 @@ held-at (z ∷ xs) t (suc i) = held-at xs (T-and (leb (suc (mag z)) 2147483648) 
 each-of : (m : ℕ) (xs : List ℤ) → T (allWithin m xs) → Each m xs
 each-of m xs t = record { at = λ i. record { size = within-at m xs t i } }
 
-far : (k : Kind) (xs : List ℤ) → T (allWithin (coordinateLimit k) (fromFirst xs)) → T (allHeld xs) → ¬ Outside k xs
-far k xs s t =
-    ranged-inside (coordinateLimit k) xs (λ (i, h, f). f (held-at xs t i)) (inr (each-of (coordinateLimit k) (fromFirst xs) s))
+-- within the limit, by the one rule or the other
+abbrev rangedBy : Kind → List ℤ → Bool
+rangedBy k xs = allWithin (coordinateLimit k) xs || allWithin (coordinateLimit k) (fromFirst xs)
 
-near : (k : Kind) (xs : List ℤ) → T (allWithin (coordinateLimit k) xs) → T (allHeld xs) → ¬ Outside k xs
-near k xs s t = ranged-inside (coordinateLimit k) xs (λ (i, h, f). f (held-at xs t i)) (inl (each-of (coordinateLimit k) xs s))
+inside-of : (k : Kind) (xs : List ℤ) → T (allHeld xs) → T (rangedBy k xs) → ¬ Outside k xs
+inside-of k xs s t =
+    let c = coordinateLimit k in
+    ranged-inside c xs (λ (i, h, f). f (held-at xs s i))
+    (T-or (allWithin c xs) (allWithin c (fromFirst xs)) (Ranged c xs) (λ u. inl (each-of c xs u)) (λ u. inr (each-of c (fromFirst xs) u)) t)
 
+-- beyond a limit at a place
+abbrev larger : ℕ → List ℤ → ℕ → Bool
+larger m xs i = ltb i (length xs) && ltb m (natAbs (at xs i))
+
+beyond-of : (m : ℕ) (xs : List ℤ) (i : ℕ) → T (larger m xs i) → Beyond m xs
+beyond-of m xs i t =
+    let (a, b) = T-and (ltb i (length xs)) (ltb m (natAbs (at xs i))) t in
+    (i, ltb→lt i (length xs) a, ltb→lt m (natAbs (at xs i)) b)
+
+-- ---- a list of a kind
 module _ (l : ℕ) (k : Kind) (h : l ≤ greatestLevel k) (xs : List ℤ) (e : length xs ≡ 2 * nodeCount k) where
-  accepted : ¬ Outside k xs → Accepted (verdictCodes (nodeCount k) l xs)
-  accepted f = rw (kind-of-nodes k) (is-kind k, ((λ g. N.not-le-of-lt g h), ((λ g. g e), (f, tt))))
-
-  valid-box : ¬ Outside k xs → verdict (subject k xs) 0 ≡ is-valid 0 1 → Only (VerdictOf (nodeCount k) l xs) (given (is-valid 0 1))
-  valid-box f c =
+  valid-list : ¬ Outside k xs → verdict (subject k xs) 0 ≡ is-valid 0 1 → Only (VerdictOf (nodeCount k) l xs) (given (is-valid 0 1))
+  valid-list f c =
       let faith = element-faithful k xs in
       let at-0 : Judges (subject k xs) 0 (is-valid 0 1) = subst (Judges (subject k xs) 0) c (verdict-is (subject k xs) faith 0) in
-      accepted-called k l xs (is-valid 0 1) (accepted f) (limit-keeps (subject k xs) faith 0 l (is-valid 0 1) (λ w. subst (λ (v : Word). Settled (tell v)) w tt) zero-le at-0)
+      let taken : Accepted (verdictCodes (nodeCount k) l xs) = rw (kind-of-nodes k) (is-kind k, ((λ g. N.not-le-of-lt g h), ((λ g. g e), (f, tt)))) in
+      accepted-called k l xs (is-valid 0 1) taken
+      (limit-keeps (subject k xs) faith 0 l (is-valid 0 1) (λ w. subst (λ (v : Word). Settled (tell v)) w tt) zero-le at-0)
 
-  refused : Outside k xs → (r : Judged) → VerdictOf (nodeCount k) l xs r → r ≡ refusal 4
-  refused o r v =
+  refused-list : Outside k xs → (r : Judged) → VerdictOf (nodeCount k) l xs r → r ≡ refusal 4
+  refused-list o r v =
       refused-told (verdictCodes (nodeCount k) l xs) (subject (kindOf (nodeCount k)) xs) l 4
       (rw (kind-of-nodes k) (inr (is-kind k, inr ((λ g. N.not-le-of-lt g h), inr ((λ g. g e), inl (o, refl)))))) r v
 
+-- ---- a list for each kind
+module _ (lists : Kind → List ℤ) where
+  abbrev good : Kind → Bool
+  good k = sized k (lists k) && (allHeld (lists k) && rangedBy k (lists k))
+
+  abbrev Settles : Kind → Type 0
+  Settles k = verdict (subject k (lists k)) 0 ≡ is-valid 0 1
+
+  valid-boxes : T (ofAll good) → Settles six → Settles eight → Settles nine
+      → (l : ℕ) (k : Kind) → l ≤ greatestLevel k
+      → Only (VerdictOf (nodeCount k) l (lists k)) (given (is-valid 0 1))
+  valid-boxes t a b c l k h =
+      let (u, v) = T-and (sized k (lists k)) (allHeld (lists k) && rangedBy k (lists k)) (each-kind good t k) in
+      let (w, x) = T-and (allHeld (lists k)) (rangedBy k (lists k)) v in
+      valid-list l k h (lists k) (eqb→eq (length (lists k)) (2 * nodeCount k) u) (inside-of k (lists k) w x) (go k)
+    where
+      go : (k : Kind) → Settles k
+      go six = a
+      go eight = b
+      go nine = c
+
+  -- beyond the limit at place i as the list stands, and at place j from the first node
+  module _ (i : ℕ) (j : Kind → ℕ) where
+    abbrev bad : Kind → Bool
+    bad k = sized k (lists k) && (larger (coordinateLimit k) (lists k) i && larger (coordinateLimit k) (fromFirst (lists k)) (j k))
+
+    refused-boxes : T (ofAll bad) → (l : ℕ) (k : Kind) → l ≤ greatestLevel k → (r : Judged) → VerdictOf (nodeCount k) l (lists k) r → r ≡ refusal 4
+    refused-boxes t l k h =
+        let m = coordinateLimit k in
+        let (u, v) = T-and (sized k (lists k)) (larger m (lists k) i && larger m (fromFirst (lists k)) (j k)) (each-kind bad t k) in
+        let (w, x) = T-and (larger m (lists k) i) (larger m (fromFirst (lists k)) (j k)) v in
+        refused-list l k h (lists k) (eqb→eq (length (lists k)) (2 * nodeCount k) u)
+        (beyond-of m (lists k) i w, inl (beyond-of m (fromFirst (lists k)) (j k) x))
+
 -- ---- accepted
-module _ (l : ℕ) where
-  pub lowest-valid : (k : Kind) → l ≤ greatestLevel k → Only (VerdictOf (nodeCount k) l (lowest k)) (given (is-valid 0 1))
-  unfolding verdict from inRowTold least-count cellsOf firstRow rowLow inRow low least scaled value weigh leaves level greedy opens controlValues values6 controlValue
-  lowest-valid six h = valid-box l six h (lowest six) refl (far six (lowest six) tt tt) refl
-  lowest-valid eight h = valid-box l eight h (lowest eight) refl (far eight (lowest eight) tt tt) refl
-  lowest-valid nine h = valid-box l nine h (lowest nine) refl (far nine (lowest nine) tt tt) refl
+pub lowest-valid : (l : ℕ) (k : Kind) → l ≤ greatestLevel k → Only (VerdictOf (nodeCount k) l (lowest k)) (given (is-valid 0 1))
+unfolding verdict from inRowTold least-count cellsOf firstRow rowLow inRow low least scaled value weigh leaves level greedy opens controlValues values6 controlValue
+lowest-valid = valid-boxes lowest tt refl refl refl
 
-  pub highest-valid : (k : Kind) → l ≤ greatestLevel k → Only (VerdictOf (nodeCount k) l (highest k)) (given (is-valid 0 1))
-  unfolding verdict from inRowTold least-count cellsOf firstRow rowLow inRow low least scaled value weigh leaves level greedy opens controlValues values6 controlValue
-  highest-valid six h = valid-box l six h (highest six) refl (far six (highest six) tt tt) refl
-  highest-valid eight h = valid-box l eight h (highest eight) refl (far eight (highest eight) tt tt) refl
-  highest-valid nine h = valid-box l nine h (highest nine) refl (far nine (highest nine) tt tt) refl
+pub highest-valid : (l : ℕ) (k : Kind) → l ≤ greatestLevel k → Only (VerdictOf (nodeCount k) l (highest k)) (given (is-valid 0 1))
+unfolding verdict from inRowTold least-count cellsOf firstRow rowLow inRow low least scaled value weigh leaves level greedy opens controlValues values6 controlValue
+highest-valid = valid-boxes highest tt refl refl refl
 
-  pub twice-valid : (k : Kind) → l ≤ greatestLevel k → Only (VerdictOf (nodeCount k) l (twice k)) (given (is-valid 0 1))
-  unfolding verdict from inRowTold least-count cellsOf firstRow rowLow inRow low least scaled value weigh leaves level greedy opens controlValues values6 controlValue
-  twice-valid six h = valid-box l six h (twice six) refl (near six (twice six) tt tt) refl
-  twice-valid eight h = valid-box l eight h (twice eight) refl (near eight (twice eight) tt tt) refl
-  twice-valid nine h = valid-box l nine h (twice nine) refl (near nine (twice nine) tt tt) refl
+pub twice-valid : (l : ℕ) (k : Kind) → l ≤ greatestLevel k → Only (VerdictOf (nodeCount k) l (twice k)) (given (is-valid 0 1))
+unfolding verdict from inRowTold least-count cellsOf firstRow rowLow inRow low least scaled value weigh leaves level greedy opens controlValues values6 controlValue
+twice-valid = valid-boxes twice tt refl refl refl
 
-  -- ---- refused
-  pub wider-refused : (k : Kind) → l ≤ greatestLevel k → (r : Judged) → VerdictOf (nodeCount k) l (wider k) r → r ≡ refusal 4
-  wider-refused six h = refused l six h (wider six) refl ((0, lit< tt, lit< tt), inl (2, lit< tt, lit< tt))
-  wider-refused eight h = refused l eight h (wider eight) refl ((0, lit< tt, lit< tt), inl (4, lit< tt, lit< tt))
-  wider-refused nine h = refused l nine h (wider nine) refl ((0, lit< tt, lit< tt), inl (4, lit< tt, lit< tt))
+-- ---- refused
+pub wider-refused : (l : ℕ) (k : Kind) → l ≤ greatestLevel k → (r : Judged) → VerdictOf (nodeCount k) l (wider k) r → r ≡ refusal 4
+wider-refused = refused-boxes wider 0 right tt
 
-  pub taller-refused : (k : Kind) → l ≤ greatestLevel k → (r : Judged) → VerdictOf (nodeCount k) l (taller k) r → r ≡ refusal 4
-  taller-refused six h = refused l six h (taller six) refl ((0, lit< tt, lit< tt), inl (5, lit< tt, lit< tt))
-  taller-refused eight h = refused l eight h (taller eight) refl ((0, lit< tt, lit< tt), inl (11, lit< tt, lit< tt))
-  taller-refused nine h = refused l nine h (taller nine) refl ((0, lit< tt, lit< tt), inl (13, lit< tt, lit< tt))
+pub taller-refused : (l : ℕ) (k : Kind) → l ≤ greatestLevel k → (r : Judged) → VerdictOf (nodeCount k) l (taller k) r → r ≡ refusal 4
+taller-refused = refused-boxes taller 0 top tt
 
-  pub across-refused : (k : Kind) → l ≤ greatestLevel k → (r : Judged) → VerdictOf (nodeCount k) l (across k) r → r ≡ refusal 4
-  across-refused six h = refused l six h (across six) refl ((1, lit< tt, lit< tt), inl (2, lit< tt, lit< tt))
-  across-refused eight h = refused l eight h (across eight) refl ((1, lit< tt, lit< tt), inl (4, lit< tt, lit< tt))
-  across-refused nine h = refused l nine h (across nine) refl ((1, lit< tt, lit< tt), inl (4, lit< tt, lit< tt))
+pub across-refused : (l : ℕ) (k : Kind) → l ≤ greatestLevel k → (r : Judged) → VerdictOf (nodeCount k) l (across k) r → r ≡ refusal 4
+across-refused = refused-boxes across 1 right tt
 
-  pub wrapped-refused : (k : Kind) → l ≤ greatestLevel k → (r : Judged) → VerdictOf (nodeCount k) l (wrapped k) r → r ≡ refusal 4
-  wrapped-refused six h = refused l six h (wrapped six) refl ((0, lit< tt, lit< tt), inl (2, lit< tt, lit< tt))
-  wrapped-refused eight h = refused l eight h (wrapped eight) refl ((0, lit< tt, lit< tt), inl (4, lit< tt, lit< tt))
-  wrapped-refused nine h = refused l nine h (wrapped nine) refl ((0, lit< tt, lit< tt), inl (4, lit< tt, lit< tt))
+pub wrapped-refused : (l : ℕ) (k : Kind) → l ≤ greatestLevel k → (r : Judged) → VerdictOf (nodeCount k) l (wrapped k) r → r ≡ refusal 4
+wrapped-refused = refused-boxes wrapped 0 right tt
