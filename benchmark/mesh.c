@@ -384,6 +384,16 @@ static int ranged(const i64 *coords, int n, i64 most) {
     return stand | near;
 }
 
+// whether two corners stand at one place
+static int collapsed(const i64 *coords, int kind) {
+    static const u8 corners[3][4] = {{0, 1, 2}, {0, 2, 5, 7}, {0, 2, 6, 8}};
+    const u8 *at = corners[kind == 6 ? 0 : kind - 7];
+    for (int a = 0, n = kind == 6 ? 3 : 4; a < n; a++)
+        for (int b = a + 1; b < n; b++)
+            if (coords[2 * at[a]] == coords[2 * at[b]] && coords[2 * at[a] + 1] == coords[2 * at[b] + 1]) return 1;
+    return 0;
+}
+
 // the element as record k of the block; its code
 static int append(const struct hints *h, struct element e, u64 limit, i64 last, u64 k) {
     static const u8 orders[3][9] = {{0, 1, 2, 3, 4, 5}, {0, 4, 1, 7, 5, 3, 6, 2}, {0, 4, 1, 7, 8, 5, 3, 6, 2}};
@@ -397,6 +407,7 @@ static int append(const struct hints *h, struct element e, u64 limit, i64 last, 
     }
     if (limit > (kind == 6 ? 10 : 4)) return 2;
     if (!ranged(coords, 2 * kind, most)) return 4;
+    if (collapsed(coords, kind)) return 21;
     if ((i64)e.number <= last) return 10;
     if (k == RECORDS) return 11;
     u8 *r = block + 9 + 80 * k;

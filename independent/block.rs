@@ -1,7 +1,7 @@
 // Element blocks of both versions, straight from the rules: their own writer, the check record by record and then of what is signed, and
 // the list.
 
-use crate::element::{accepted, code, greatest_level, Element};
+use crate::element::{accepted, code, collapsed, greatest_level, Element};
 use crate::verdict::{Judged, Verdict};
 
 pub struct Record {
@@ -85,7 +85,8 @@ impl Stored {
         }
     }
 
-    // The record's code in a block of that version, where the id before is `last`; what is signed is not yet judged.
+    // The record's code in a block of that version, where the id before is `last`: 1, then 2, 9, 4, 21, 10. What is signed is not yet
+    // judged.
     fn code(&self, version: u16, last: i64) -> u8 {
         if self.kind != 6 && self.kind != 8 && self.kind != 9 {
             return 1;
@@ -100,6 +101,9 @@ impl Stored {
         }
         if !accepted(self.kind, nodes) {
             return 4;
+        }
+        if collapsed(self.kind, nodes) {
+            return 21;
         }
         if self.id as i64 <= last {
             return 10;

@@ -37,7 +37,22 @@ pub fn accepted(kind: u8, coords: &[i64]) -> bool {
     held && (within_limit(kind, coords) || within_limit(kind, &from_first_node(coords)))
 }
 
-// The code of a call on the element: 1, then 2 (the verdict only), 3, 4.
+// The corner nodes of a kind.
+pub fn corners(kind: u8) -> &'static [usize] {
+    match kind {
+        6 => &[0, 1, 2],
+        8 => &[0, 2, 5, 7],
+        _ => &[0, 2, 6, 8],
+    }
+}
+
+// Whether two corner nodes of an element are at one place, then the code is 21: any two of them, those of a diagonal of a quad too.
+pub fn collapsed(kind: u8, coords: &[i64]) -> bool {
+    let places: Vec<&[i64]> = corners(kind).iter().map(|&k| &coords[2 * k..2 * k + 2]).collect();
+    places.iter().enumerate().any(|(n, place)| places[..n].contains(place))
+}
+
+// The code of a call on the element: 1, then 2 (the verdict only), 3, 4, 21.
 pub fn code(e: &Element, with_level: bool) -> u8 {
     if e.kind != 6 && e.kind != 8 && e.kind != 9 {
         return 1;
@@ -50,6 +65,9 @@ pub fn code(e: &Element, with_level: bool) -> u8 {
     }
     if !accepted(e.kind, &e.coords) {
         return 4;
+    }
+    if collapsed(e.kind, &e.coords) {
+        return 21;
     }
     0
 }

@@ -7,22 +7,22 @@
 
 use crate::answers::{answer, words};
 use crate::block::{assembled, block_bytes, hex, record_bytes, signature, Record};
-use crate::element::{accepted, coordinate_limit, greatest_level, within_limit, Element, Num};
+use crate::element::{code, coordinate_limit, greatest_level, within_limit, Element, Num};
 use crate::mesh::places;
 use crate::packs;
-use crate::sets::{touching, Random};
+use crate::sets::{touching, uncollapsed, Random};
 use crate::sheets::{asked, steps};
 use crate::texts::{self, coordinate, gmsh_type, once_in, stored_records};
 use crate::verdict::Judged;
 
-const KINDS: [u8; 3] = [6, 8, 9];
+pub const KINDS: [u8; 3] = [6, 8, 9];
 
-const LEAST: i64 = i32::MIN as i64;
-const GREATEST: i64 = i32::MAX as i64;
+pub const LEAST: i64 = i32::MIN as i64;
+pub const GREATEST: i64 = i32::MAX as i64;
 
 // ---- shapes
 
-type Shape = Vec<[i64; 2]>;
+pub type Shape = Vec<[i64; 2]>;
 
 // A curved shape, no node more than `size` to the right of the first node or above it, and none to its left or below it.
 fn shape(r: &mut Random, kind: u8, size: i64) -> Shape {
@@ -34,14 +34,14 @@ fn shape(r: &mut Random, kind: u8, size: i64) -> Shape {
 }
 
 // A shape that is not apart, of any size.
-fn any_shape(r: &mut Random, kind: u8) -> Shape {
+pub fn any_shape(r: &mut Random, kind: u8) -> Shape {
     let most = coordinate_limit(kind);
     let size = r.pick(&[6, 40, 400, most / 2, most, most]);
     shape(r, kind, size)
 }
 
 // The shape turned by so many right angles, which alters no J.
-fn rotated(s: &[[i64; 2]], times: usize) -> Shape {
+pub fn rotated(s: &[[i64; 2]], times: usize) -> Shape {
     let turn = |&[x, y]: &[i64; 2]| [[x, y], [-y, x], [-x, -y], [y, -x]][times];
     s.iter().map(turn).collect()
 }
@@ -56,6 +56,12 @@ fn with(s: &[[i64; 2]], k: usize, axis: usize, d: i64) -> Shape {
     let mut out = s.to_vec();
     out[k][axis] = d;
     out
+}
+
+// Any shape with one difference set, its corners not at one place.
+fn reaching(r: &mut Random, kind: u8, k: usize, axis: usize, d: i64) -> Shape {
+    let coords = uncollapsed(r, kind, |r| with(&any_shape(r, kind), k, axis, d).concat());
+    coords.chunks(2).map(|p| [p[0], p[1]]).collect()
 }
 
 // The shape mirrored in one axis, where the sign is below zero.
@@ -85,19 +91,19 @@ fn far_number(r: &mut Random) -> i64 {
 }
 
 // An origin far out in x, in y or in both.
-fn far_out(r: &mut Random) -> [i64; 2] {
+pub fn far_out(r: &mut Random) -> [i64; 2] {
     let (x, y, inner) = (far_number(r), far_number(r), r.pick(&[0, 7, -1_000, 2_000]));
     r.pick(&[[x, y], [x, y], [x, y], [x, inner], [inner, y]])
 }
 
 // The element of that shape at that origin, with the limit 0.
-fn placed(kind: u8, s: &[[i64; 2]], origin: [i64; 2]) -> Element {
+pub fn placed(kind: u8, s: &[[i64; 2]], origin: [i64; 2]) -> Element {
     let coords = s.iter().flat_map(|&[x, y]| [origin[0] + x, origin[1] + y]).collect();
     Element { kind, limit: 0, coords }
 }
 
 // The element under a limit that is not slow.
-fn under_any(r: &mut Random, e: Element) -> Element {
+pub fn under_any(r: &mut Random, e: Element) -> Element {
     Element { limit: r.range(0, 3) as u8, ..e }
 }
 
@@ -111,7 +117,7 @@ fn far_element(r: &mut Random, kind: u8) -> Element {
 // ---- lines for the program `calls`
 
 // The id of what is appended; those of the records before it are lower.
-const NEXT: u32 = 41;
+pub const NEXT: u32 = 41;
 
 // A block for that call with the element in it, and which record it is.
 fn block_for(r: &mut Random, call: &str, e: &Element) -> (Vec<u8>, usize) {
@@ -131,7 +137,7 @@ fn block_for(r: &mut Random, call: &str, e: &Element) -> (Vec<u8>, usize) {
 }
 
 // A block with so much room behind it, and how many bytes of it are used.
-fn buffer(r: &mut Random, room: usize) -> (Vec<u8>, u64) {
+pub fn buffer(r: &mut Random, room: usize) -> (Vec<u8>, u64) {
     let held = r.pick(&[0, 0, 1]);
     let mut out = block_bytes(&stored_records(r, held, NEXT - 1));
     let used = out.len() as u64;
@@ -139,7 +145,7 @@ fn buffer(r: &mut Random, room: usize) -> (Vec<u8>, u64) {
     (out, used)
 }
 
-fn append_line((buffer, used): (Vec<u8>, u64), id: u32, e: &Element) -> String {
+pub fn append_line((buffer, used): (Vec<u8>, u64), id: u32, e: &Element) -> String {
     format!("append {} {} {} {} {} {}{}", hex(&buffer), used, id, e.kind, e.limit, e.coords.len(), words(&e.coords))
 }
 
@@ -155,25 +161,25 @@ fn mesh_text(kind: u8, xs: &[String]) -> Vec<u8> {
     format!("$MeshFormat\n2.2 0 8\n$EndMeshFormat\n{}{}", nodes, elements).into_bytes()
 }
 
-fn mesh_line((buffer, used): (Vec<u8>, u64), kind: u8, limit: u8, xs: &[String]) -> String {
+pub fn mesh_line((buffer, used): (Vec<u8>, u64), kind: u8, limit: u8, xs: &[String]) -> String {
     texts::Question { text: mesh_text(kind, xs), limit, buffer, used }.line()
 }
 
-fn text_line((buffer, used): (Vec<u8>, u64), kind: u8, limit: u8, xs: &[String]) -> String {
+pub fn text_line((buffer, used): (Vec<u8>, u64), kind: u8, limit: u8, xs: &[String]) -> String {
     let text = format!("{} {} {} {}\n", NEXT, kind, limit, xs.join(" ")).into_bytes();
     packs::Question { text, buffer, used }.line()
 }
 
-fn written(r: &mut Random, e: &Element) -> Vec<String> {
+pub fn written(r: &mut Random, e: &Element) -> Vec<String> {
     e.coords.iter().map(|&x| coordinate(r, x as Num)).collect()
 }
 
-const CALLS: [&str; 14] = [
+pub const CALLS: [&str; 14] = [
     "control", "bounds", "verdict", "floor", "sheet", "check", "fetch", "walk", "list", "append", "sign", "convert 2", "mesh", "text",
 ];
 
 // A call on the element. That for a sheet is asked together with its check; a floor is asked of triangles.
-fn ask(r: &mut Random, call: &str, e: &Element, out: &mut Vec<String>) {
+pub fn ask(r: &mut Random, call: &str, e: &Element, out: &mut Vec<String>) {
     let xs = words(&e.coords);
     match call {
         "control" => out.push(format!("control {} {}{}", r.pick(&[16, 16, 64, 5]), e.kind, xs)),
@@ -194,7 +200,7 @@ fn ask(r: &mut Random, call: &str, e: &Element, out: &mut Vec<String>) {
 
 // So many different calls on an element that is accepted, or refused with 4.
 fn ask_some(r: &mut Random, count: usize, is_good: bool, e: Element, out: &mut Vec<String>) {
-    assert!(accepted(e.kind, &e.coords) == is_good, "{} {:?}", e.kind, e.coords);
+    assert!(code(&e, true) == if is_good { 0 } else { 4 }, "{} {:?}", e.kind, e.coords);
     let e = under_any(r, e);
     let first = r.range(0, CALLS.len() as i64 - 1) as usize;
     for k in 0..count {
@@ -224,7 +230,7 @@ fn at_limit(r: &mut Random, out: &mut Vec<String>) {
         for k in 1..kind as usize {
             for d in [most, -most, most + 1, -most - 1] {
                 for axis in 0..2 {
-                    let (e, is_good) = (placed(kind, &with(&any_shape(r, kind), k, axis, d), far_out(r)), d.abs() == most);
+                    let (e, is_good) = (placed(kind, &reaching(r, kind, k, axis, d), far_out(r)), d.abs() == most);
                     ask_some(r, if is_good { 2 } else { 1 }, is_good, e, out);
                 }
             }
@@ -518,13 +524,20 @@ fn with_faults(r: &mut Random, out: &mut Vec<String>) {
     }
 }
 
+// The triangle's corners on a line, not at one place.
+fn on_a_line(mut s: Shape) -> Shape {
+    s[1][1] = 0;
+    s[2] = [s[2][0].max(1), 0];
+    s
+}
+
 // Triangles under a floor, with p beyond its range, with corners on a line or turning to the right, and with a limit that a floor refuses.
 fn with_floors(r: &mut Random, out: &mut Vec<String>) {
     for is_good in [true, false] {
         for p in [0, 100, 255, 50, 1, 99] {
             let s = if is_good { any_shape(r, 6) } else { with(&any_shape(r, 6), 4, 0, coordinate_limit(6) + 1) };
-            let (right, line) = (mirrored(&s, 1, -1), with(&with(&s, 1, 1, 0), 2, 1, 0));
-            for s in [s, right, line] {
+            let right = mirrored(&s, 1, -1);
+            for s in [s.clone(), right, on_a_line(s)] {
                 let (e, limit) = (placed(6, &s, far_out(r)), r.pick(&[0, 1, 3, 7, 8]));
                 out.push(format!("floor {} {} {}{}", p, e.kind, limit, words(&e.coords)));
             }

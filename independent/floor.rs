@@ -39,7 +39,7 @@ pub fn straight(e: &Element) -> Num {
     det([a1[0] - a0[0], a1[1] - a0[1]], [a2[0] - a0[0], a2[1] - a0[1]])
 }
 
-// The code: the verdict's own, for kind 6 alone and with 7 as its greatest level, then 16 and 17.
+// The code: the verdict's own, 21 the last of them, for kind 6 alone and with 7 as its greatest level, then 16 and 17.
 pub fn floor_code(p: u8, e: &Element) -> u8 {
     if e.kind != 6 {
         return 1;

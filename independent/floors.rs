@@ -5,7 +5,7 @@ use crate::block::block_bytes;
 use crate::blocks::{damaged, records};
 use crate::element::{coordinate_limit, Element};
 use crate::floor::{falls, floor_code, straight};
-use crate::sets::{elements, is_near, shaken, Random};
+use crate::sets::{collapse, elements, is_near, shaken, uncollapsed, Random};
 
 // A call of `floor_verdict`.
 pub struct Question {
@@ -190,7 +190,7 @@ fn exactly(r: &mut Random) -> Option<Question> {
 // Coordinates at the limits, their numbering such that the corners turn to the left, if they turn.
 fn outermost(r: &mut Random) -> Option<Question> {
     let most = coordinate_limit(6);
-    let coords: Vec<i64> = (0..12).map(|_| r.pick(&[most, most, -most, -most, 0, most - 1, 1])).collect();
+    let coords = uncollapsed(r, 6, |r| (0..12).map(|_| r.pick(&[most, most, -most, -most, 0, most - 1, 1])).collect());
     let p = any_floor(r);
     let q = question(r, p, coords);
     Some(if floor_code(q.p, &q.element) == 17 { mirrored(q) } else { q })
@@ -203,36 +203,44 @@ fn mirrored(mut q: Question) -> Question {
     q
 }
 
-// The faults of a call in the order in which they count: 1, 2, 3, 4, 16, 17.
-const FAULTS: u32 = 6;
+// The codes of the faults of a call, in the order in which they count; 21 stands between 4 and 16.
+const FAULTS: [u8; 6] = [1, 2, 3, 4, 16, 17];
 
-// A call with the faults whose bits are set.
-fn faulty(r: &mut Random, faults: u32) -> Question {
-    let has = |fault: u32| faults >> fault & 1 == 1;
+// Those of them whose bits are set in n.
+fn chosen(n: usize) -> Vec<u8> {
+    (0..FAULTS.len()).filter(|k| n >> k & 1 == 1).map(|k| FAULTS[k]).collect()
+}
+
+// A call with these faults.
+fn faulty(r: &mut Random, faults: &[u8]) -> Question {
+    let has = |fault: u8| faults.contains(&fault);
     let (size, noise) = r.pick(&[(40, 4), (200, 20), (30_000, 3_000)]);
     let coords = shaken(r, 6, size, noise);
     let p = any_floor(r);
     let mut q = question(r, p, coords);
-    if has(5) {
+    if has(17) {
         q = if r.range(0, 3) > 0 { mirrored(q) } else { flat(q) };
     }
-    if has(4) {
+    if has(16) {
         q.p = r.pick(&[0, 0, 100, 100, 101, 128, 200, 255, 255]);
     }
     let e = &mut q.element;
-    if has(3) {
+    if has(21) {
+        collapse(r, 6, &mut e.coords);
+    }
+    if has(4) {
         let far = coordinate_limit(6) + r.pick(&[1, 1, 2, 100, 65_536]);
         let at = r.range(0, 11) as usize;
         e.coords[at] = r.pick(&[far, far, -far, -far, i32::MAX as i64, i32::MIN as i64]);
     }
-    if has(2) {
+    if has(3) {
         let length = r.pick(&[0, 1, 2, 6, 10, 11, 13, 14, 16, 18, 24]);
         e.coords.resize(length, 1);
     }
-    if has(1) {
+    if has(2) {
         e.limit = r.pick(&[8, 8, 9, 10, 11, 255]);
     }
-    if has(0) {
+    if has(1) {
         e.kind = r.pick(&[8, 8, 9, 9, 10, 0, 5, 7, 12, 255]);
     }
     q
@@ -261,7 +269,7 @@ pub fn questions() -> Vec<Question> {
     out.extend(some(r, 1_100, nearly));
     out.extend(some(r, 240, outermost));
     for n in 0..900 {
-        out.push(faulty(r, n % (1 << FAULTS)));
+        out.push(faulty(r, &chosen(n)));
     }
     // quads are refused, however good
     for _ in 0..60 {
@@ -271,6 +279,13 @@ pub fn questions() -> Vec<Question> {
         out.push(Question { element: Element { kind, ..q.element }, ..q });
     }
     out
+}
+
+// Triangles with two corners at one place, with each choice of the other faults, and again with those alone that count behind it.
+pub fn collapsed_questions() -> Vec<Question> {
+    let r = &mut Random(20_261_123);
+    let choices = (0..64).chain((0..64).map(|n| n & 0b11_0000));
+    choices.map(|n| faulty(r, &[&[21], &chosen(n)[..]].concat())).collect()
 }
 
 // ---- blocks

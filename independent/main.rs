@@ -1,15 +1,16 @@
 // An independent judge: it makes sets of elements, blocks, proof sheets, mesh texts and texts of records from fixed seeds, and writes what
 // the checker must answer to them.
-//   independent DIR    writes calls.txt, floors.txt, signs.txt, sheets.txt, fars.txt, lists.txt, floorlists.txt, meshes.txt and packs.txt
-//                      in DIR
+//   independent DIR    writes calls.txt, floors.txt, signs.txt, sheets.txt, fars.txt, corners.txt, lists.txt, floorlists.txt, meshes.txt
+//                      and packs.txt in DIR
 //   independent -      answers the lines of standard input as the program calls does, a line each
-// A line of calls.txt, floors.txt, signs.txt, sheets.txt, fars.txt, meshes.txt and packs.txt is `a line for the program calls -> its
-// answer`; one of lists.txt is `a block in hex -> what the program verdicts prints, its lines joined by " / "`, and one of floorlists.txt
-// has the floor before the block.
+// A line of calls.txt, floors.txt, signs.txt, sheets.txt, fars.txt, corners.txt, meshes.txt and packs.txt is `a line for the program calls
+// -> its answer`; one of lists.txt is `a block in hex -> what the program verdicts prints, its lines joined by " / "`, and one of
+// floorlists.txt has the floor before the block.
 
 mod answers;
 mod block;
 mod blocks;
+mod corners;
 mod element;
 mod fars;
 mod floor;
@@ -141,12 +142,15 @@ fn write_sets(dir: &str) {
     floor_blocks.extend(signs::floor_blocks(&stock));
     write("calls.txt", in_parallel(calls, answered));
     write("lists.txt", in_parallel(blocks, list_line));
-    write("floors.txt", in_parallel(floors.iter().map(floors::Question::line).collect(), answered));
+    let floors = floors.iter().chain(&floors::collapsed_questions()).map(floors::Question::line).collect();
+    write("floors.txt", in_parallel(floors, answered));
     write("floorlists.txt", in_parallel(floor_blocks, floor_list_line));
     write("signs.txt", in_parallel(signs::questions(&stock), answered));
     write("sheets.txt", in_parallel(sheets::questions(), answered));
     write("fars.txt", in_parallel(fars::questions(), answered));
-    write("meshes.txt", in_parallel(texts::questions().iter().map(texts::Question::line).collect(), answered));
+    write("corners.txt", in_parallel(corners::questions(), answered));
+    let meshes = texts::questions().iter().chain(&texts::collapsed_questions()).map(texts::Question::line).collect();
+    write("meshes.txt", in_parallel(meshes, answered));
     write("packs.txt", in_parallel(packs::questions().iter().map(packs::Question::line).collect(), answered));
 }
 

@@ -68,7 +68,7 @@ fn node_row(row: &Row) -> Option<Node> {
 }
 
 // The kind that a type of Gmsh becomes, if it is one of the three.
-fn kind_of(gmsh_type: u32) -> Option<u8> {
+pub fn kind_of(gmsh_type: u32) -> Option<u8> {
     match gmsh_type {
         9 => Some(6),
         10 => Some(9),

@@ -2,8 +2,9 @@
 
 use crate::block::{block_bytes, hex};
 use crate::element::{greatest_level, Num};
-use crate::sets::Random;
-use crate::texts::{coordinate, coordinates, damaged, number, once_in, pick_word, spoil, stored_records, FRACTIONS, WORDS};
+use crate::sets::{two_corners, uncollapsed, Random};
+use crate::texts::{coordinate, coordinates, damaged, number, once_in, pick_word, rewritten, spoil, stored_records, FRACTIONS, WORDS};
+use crate::words::whole_number;
 
 // A call of `append_text`.
 pub struct Question {
@@ -33,13 +34,14 @@ enum Fault {
     Limit,
     Count,
     Far,
+    Collapsed,
     Sunk,
     Room,
 }
 
-const FAULTS: [Fault; 13] = {
+const FAULTS: [Fault; 14] = {
     use self::Fault::*;
-    [Short, Head, Word, Cut, Fraction, Used, Block, Kind, Limit, Count, Far, Sunk, Room]
+    [Short, Head, Word, Cut, Fraction, Used, Block, Kind, Limit, Count, Far, Collapsed, Sunk, Room]
 };
 
 // Words that are no whole numbers.
@@ -77,7 +79,7 @@ fn good_line(r: &mut Random, id: u64) -> Line {
     let kind = r.pick(&[6, 6, 6, 8, 9]);
     let limit = r.range(0, greatest_level(kind) as i64) as u64;
     let mut line = vec![number(r, id), number(r, kind as u64), number(r, limit)];
-    for x in coordinates(r, kind) {
+    for x in uncollapsed(r, kind, |r| coordinates(r, kind)) {
         line.push(coordinate(r, x as Num));
     }
     line
@@ -115,6 +117,15 @@ fn miscount(r: &mut Random, line: &mut Line) {
     }
 }
 
+// Two corners of a good line at one place.
+fn collapse(r: &mut Random, line: &mut Line) {
+    let kind = whole_number(line[1].as_bytes()).expect("a kind") as u8;
+    let (from, to) = two_corners(r, kind);
+    for axis in 0..2 {
+        line[3 + 2 * to + axis] = rewritten(r, &line[3 + 2 * from + axis]);
+    }
+}
+
 // A line with that fault; `before` is the id before its own.
 fn spoil_line(r: &mut Random, line: &mut Line, fault: Fault, before: u64) {
     match fault {
@@ -140,6 +151,7 @@ fn spoil_line(r: &mut Random, line: &mut Line, fault: Fault, before: u64) {
             let word = pick_word(r, FAR);
             set_coordinate(r, line, word);
         }
+        Fault::Collapsed => collapse(r, line),
         Fault::Sunk => {
             let id = r.pick(&[before, before, before - 1, 0]);
             line[0] = number(r, id);
@@ -208,9 +220,9 @@ fn question(r: &mut Random, count: usize, faults: &[(Fault, usize)]) -> Question
     Question { text, buffer, used }
 }
 
-// Each fault alone, at each place of one, two and three lines.
-fn alone(r: &mut Random, out: &mut Vec<Question>) {
-    for fault in FAULTS {
+// Each of these faults alone, at each place of one, two and three lines.
+fn alone(r: &mut Random, is_meant: impl Fn(Fault) -> bool, out: &mut Vec<Question>) {
+    for fault in FAULTS.iter().copied().filter(|&f| is_meant(f)) {
         for (count, at) in [(1, 0), (2, 0), (2, 1), (3, 0), (3, 1), (3, 2)] {
             for _ in 0..4 {
                 out.push(question(r, count, &[(fault, at)]));
@@ -227,10 +239,10 @@ fn of_blocks(r: &mut Random, out: &mut Vec<Question>) {
     }
 }
 
-// Two faults each, in one line and in two, the one before the other and behind it.
-fn in_pairs(r: &mut Random, out: &mut Vec<Question>) {
+// Two of these faults each, in one line and in two, the one before the other and behind it.
+fn in_pairs(r: &mut Random, are_meant: impl Fn(Fault, Fault) -> bool, out: &mut Vec<Question>) {
     for (k, &f) in FAULTS.iter().enumerate() {
-        for &g in &FAULTS[k + 1..] {
+        for &g in FAULTS[k + 1..].iter().filter(|&&g| are_meant(f, g)) {
             for (count, a, b) in [(1, 0, 0), (2, 0, 1), (2, 1, 0), (2, 1, 1), (3, 1, 2), (3, 2, 0)] {
                 out.push(question(r, count, &[(f, a), (g, b)]));
             }
@@ -289,13 +301,15 @@ pub fn questions() -> Vec<Question> {
     let mut r = Random(31_415_926);
     let mut out = Vec::new();
     beginnings(&mut out);
-    alone(&mut r, &mut out);
+    alone(&mut r, |f| f != Fault::Collapsed, &mut out);
     of_blocks(&mut r, &mut out);
-    in_pairs(&mut r, &mut out);
+    in_pairs(&mut r, |f, g| f != Fault::Collapsed && g != Fault::Collapsed, &mut out);
     whole_and_damaged(&mut r, &mut out);
     senseless(&mut r, &mut out);
     for (held, lines, first) in [(799, 1, 5_000), (799, 2, 5_000), (800, 1, 5_000), (800, 1, 4_999), (500, 300, 5_000), (500, 301, 5_000)] {
         out.push(many(&mut r, held, lines, first));
     }
+    alone(&mut r, |f| f == Fault::Collapsed, &mut out);
+    in_pairs(&mut r, |f, g| f == Fault::Collapsed || g == Fault::Collapsed, &mut out);
     out
 }

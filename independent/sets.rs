@@ -1,6 +1,6 @@
 // The sets of elements, from fixed seeds.
 
-use crate::element::{code, coordinate_limit, greatest_level, within_limit, Element};
+use crate::element::{code, collapsed, coordinate_limit, corners, greatest_level, within_limit, Element};
 
 // A small generator of random numbers (splitmix64).
 pub struct Random(pub u64);
@@ -24,6 +24,35 @@ impl Random {
     }
 }
 
+// A generator of its own for what has these coordinates.
+pub fn of_its_own(coords: &[i64]) -> Random {
+    Random(coords.iter().fold(1, |seed, &x| Random(seed ^ x as u64).next()))
+}
+
+// The coordinates that `make` draws; where two corners are at one place, those that it draws from a generator of their own, so that all
+// that is drawn behind them stays as it is.
+pub fn uncollapsed(r: &mut Random, kind: u8, make: impl Fn(&mut Random) -> Vec<i64>) -> Vec<i64> {
+    let mut coords = make(r);
+    while collapsed(kind, &coords) {
+        coords = make(&mut of_its_own(&coords));
+    }
+    coords
+}
+
+// Two different corners of a kind.
+pub fn two_corners(r: &mut Random, kind: u8) -> (usize, usize) {
+    let corners = corners(kind);
+    let first = r.range(0, corners.len() as i64 - 1) as usize;
+    let second = first + r.range(1, corners.len() as i64 - 1) as usize;
+    (corners[first], corners[second % corners.len()])
+}
+
+// Two corners of an element put at one place.
+pub fn collapse(r: &mut Random, kind: u8, coords: &mut [i64]) {
+    let (from, to) = two_corners(r, kind);
+    coords.copy_within(2 * from..2 * from + 2, 2 * to);
+}
+
 fn clamp(kind: u8, x: i64) -> i64 {
     let most = coordinate_limit(kind);
     x.clamp(-most, most)
@@ -31,6 +60,11 @@ fn clamp(kind: u8, x: i64) -> i64 {
 
 // A straight-sided element of a size, turned by a shear, its nodes moved by at most `noise`.
 pub fn shaken(r: &mut Random, kind: u8, size: i64, noise: i64) -> Vec<i64> {
+    uncollapsed(r, kind, |r| shaken_nodes(r, kind, size, noise))
+}
+
+// The same, its corners anywhere.
+fn shaken_nodes(r: &mut Random, kind: u8, size: i64, noise: i64) -> Vec<i64> {
     let half: Vec<(i64, i64)> = match kind {
         6 => vec![(0, 0), (2, 0), (0, 2), (1, 0), (1, 1), (0, 1)],
         8 => vec![(0, 0), (1, 0), (2, 0), (0, 1), (2, 1), (0, 2), (1, 2), (2, 2)],
@@ -52,6 +86,23 @@ pub fn shaken(r: &mut Random, kind: u8, size: i64, noise: i64) -> Vec<i64> {
 pub fn touching(k: i64, e: i64, x: i64) -> Vec<i64> {
     let points = [(-8 * k, 0), (8 * k, 0), (0, 16 * k), (x, 8 * k - e), (8 * k, 8 * k), (-8 * k, 8 * k)];
     points.iter().flat_map(|&(a, b)| [clamp(6, a), clamp(6, b)]).collect()
+}
+
+// Coordinates at the limits and about zero.
+pub fn outermost(r: &mut Random, kind: u8) -> Vec<i64> {
+    let most = coordinate_limit(kind);
+    (0..2 * kind as usize).map(|_| r.pick(&[most, -most, 0, most - 1, 1])).collect()
+}
+
+// A shaken element whose nodes all lie near a line.
+fn flattened(r: &mut Random, kind: u8) -> Vec<i64> {
+    let mut c = shaken(r, kind, 64, 2);
+    let (a, b) = (r.range(-3, 3), r.range(-3, 3));
+    for k in 0..kind as usize {
+        let x = c[2 * k];
+        c[2 * k + 1] = clamp(kind, (x * a + c[2 * k + 1] * b) / 16 + r.range(-1, 1));
+    }
+    c
 }
 
 // Triangles that settle, or stay open, at each level up to the greatest; found by a search over `touching`.
@@ -94,17 +145,9 @@ pub fn elements() -> Vec<Element> {
             // large
             9 => shaken(&mut r, kind, most / 2, most / 12),
             // at the limits
-            10 => (0..2 * kind as usize).map(|_| r.pick(&[most, -most, 0, most - 1, 1])).collect(),
+            10 => uncollapsed(&mut r, kind, |r| outermost(r, kind)),
             // nearly degenerate
-            _ => {
-                let mut c = shaken(&mut r, kind, 64, 2);
-                let (a, b) = (r.range(-3, 3), r.range(-3, 3));
-                for k in 0..kind as usize {
-                    let x = c[2 * k];
-                    c[2 * k + 1] = clamp(kind, (x * a + c[2 * k + 1] * b) / 16 + r.range(-1, 1));
-                }
-                c
-            }
+            _ => uncollapsed(&mut r, kind, |r| flattened(r, kind)),
         };
         let e = element(&mut r, kind, coords);
         out.push(e);

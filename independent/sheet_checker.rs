@@ -32,6 +32,23 @@ fn are_around(centre: Point, far: Num, points: &[Point]) -> bool {
     points.iter().all(|&p| minus(p, centre).iter().all(|d| -far <= *d && *d <= far))
 }
 
+// The corners of an element.
+fn corners(nodes: &[Point]) -> Vec<Point> {
+    match nodes {
+        [a, b, c, _, _, _] => vec![*a, *b, *c],
+        [a, _, b, _, _, c, _, d] => vec![*a, *b, *c, *d],
+        _ => vec![nodes[0], nodes[2], nodes[6], nodes[8]],
+    }
+}
+
+// Whether no two of these points are one.
+fn are_different(points: &[Point]) -> bool {
+    match points {
+        [first, others @ ..] => !others.contains(first) && are_different(others),
+        [] => true,
+    }
+}
+
 // ---- triangles
 
 // c00 c11 c22 c01 c12 c02
@@ -207,6 +224,7 @@ fn is_accepted(nodes: &[Point], limit: u8, sheet: &[u8]) -> bool {
     }
 }
 
+// The code of a check: the first of 1, 2, 3, 4, 21 and 20 that holds, else 0.
 fn check(sheet: &[u8], kind: u8, limit: u8, coords: &[i32]) -> u8 {
     let (greatest, farthest) = match kind {
         6 => (10, 65_536),
@@ -222,6 +240,9 @@ fn check(sheet: &[u8], kind: u8, limit: u8, coords: &[i32]) -> u8 {
     let nodes: Vec<Point> = coords.chunks(2).map(|n| [n[0] as Num, n[1] as Num]).collect();
     if !are_around([0, 0], farthest, &nodes) && !are_around(nodes[0], farthest, &nodes) {
         return 4;
+    }
+    if !are_different(&corners(&nodes)) {
+        return 21;
     }
     if is_accepted(&nodes, limit, sheet) { 0 } else { NOT_ACCEPTED }
 }

@@ -3,7 +3,7 @@
 use crate::answers::words;
 use crate::block::hex;
 use crate::element::{code, coordinate_limit, greatest_level, Element, Num};
-use crate::sets::{shaken, touching, Random};
+use crate::sets::{collapse, shaken, touching, Random};
 use crate::sheet::{quarters, Cell, HEADER, WHOLE};
 use crate::texts::once_in;
 use std::collections::HashSet;
@@ -18,11 +18,11 @@ const MOST_ROOM: usize = 64_000;
 
 // ---- lines for the program `calls`
 
-fn check_line(sheet: &[u8], e: &Element) -> String {
+pub fn check_line(sheet: &[u8], e: &Element) -> String {
     format!("checksheet {} {} {}{}", hex(sheet), e.kind, e.limit, words(&e.coords))
 }
 
-fn sheet_line(room: usize, e: &Element) -> String {
+pub fn sheet_line(room: usize, e: &Element) -> String {
     format!("sheet {} {} {}{}", room, e.kind, e.limit, words(&e.coords))
 }
 
@@ -552,37 +552,45 @@ fn outermost(r: &mut Random, out: &mut Vec<String>) {
     }
 }
 
-// The faults of a call in the order in which they count: 1, 2, 3, 4, 20, and 5 for the room.
-const FAULTS: u32 = 6;
+// The codes of the faults of a call in the order in which they count, 5 for the room; 21 stands between 4 and 20.
+const FAULTS: [u8; 6] = [1, 2, 3, 4, 20, 5];
 
-// A call of each with that fault first, and any of those behind it.
-fn faulty(r: &mut Random, stock: &[Known], first: u32, out: &mut Vec<String>) {
+// That one of them, and any of those behind it.
+fn chosen(r: &mut Random, first: usize) -> Vec<u8> {
     let others = r.next();
-    let has = |fault: u32| fault == first || fault > first && others >> fault & 1 == 1;
+    (first..FAULTS.len()).filter(|&k| k == first || others >> k & 1 == 1).map(|k| FAULTS[k]).collect()
+}
+
+// A call of each with these faults.
+fn faulty(r: &mut Random, stock: &[Known], faults: &[u8], out: &mut Vec<String>) {
+    let has = |fault: u8| faults.contains(&fault);
     let known = one(r, stock);
     let mut e = under(&known.element, known.limit(r));
     let (mut sheet, mut room) = (known.sheet.clone(), known.sheet.len());
     if has(5) {
         room = r.pick(&[0, room - 1]);
     }
-    if has(4) {
+    if has(20) {
         sheet = altered(r, &sheet, 0);
         e = known.beside.clone().unwrap_or(e);
     }
-    if has(3) {
+    if has(21) {
+        collapse(r, e.kind, &mut e.coords);
+    }
+    if has(4) {
         let far = coordinate_limit(e.kind) + r.pick(&[1, 1, 2, 100, 65_536]);
         let at = r.range(0, e.coords.len() as i64 - 1) as usize;
         e.coords[at] = r.pick(&[far, far, -far, -far, i32::MAX as i64, i32::MIN as i64]);
     }
-    if has(2) {
+    if has(3) {
         let lengths: Vec<usize> = (0..25).filter(|&n| n != e.coords.len()).collect();
         e.coords.resize(r.pick(&lengths), 1);
     }
-    if has(1) {
+    if has(2) {
         let greatest = greatest_level(e.kind);
         e.limit = r.pick(&[greatest + 1, greatest + 1, greatest + 2, 255]);
     }
-    if has(0) {
+    if has(1) {
         e.kind = r.pick(&[0, 1, 5, 7, 10, 12, 255]);
     }
     out.push(sheet_line(room, &e));
@@ -622,9 +630,15 @@ pub fn questions() -> Vec<String> {
     zeros(r, &mut out);
     outermost(r, &mut out);
     for n in 0..96 {
-        faulty(r, &stock, n % FAULTS, &mut out);
+        let faults = chosen(r, n % FAULTS.len());
+        faulty(r, &stock, &faults, &mut out);
     }
     deep(r, &mut out);
+    // two corners at one place, alone and with each other fault
+    for n in 0..56 {
+        let others = chosen(r, n % (FAULTS.len() + 1));
+        faulty(r, &stock, &[&[21], &others[..]].concat(), &mut out);
+    }
     // no line stands twice
     let mut seen = HashSet::new();
     out.retain(|line| seen.insert(line.clone()));

@@ -7,7 +7,7 @@ use crate::element::{coordinate_limit, greatest_level, Element};
 use crate::mesh::append_mesh;
 use crate::pack::append_text;
 use crate::packs;
-use crate::sets::{elements, is_near, touching, Random};
+use crate::sets::{elements, is_near, touching, two_corners, Random};
 use crate::sign::{convert, sign};
 use crate::texts::{self, once_in};
 use crate::verdict::{Judged, Verdict};
@@ -79,7 +79,7 @@ fn set_sign(record: &mut [u8], bytes: [u8; 2]) {
 }
 
 // What can be wrong with a record, in the order in which it counts.
-#[derive(Clone, Copy)]
+#[derive(Clone, Copy, PartialEq)]
 enum Fault {
     Kind,
     Limit,
@@ -91,14 +91,15 @@ enum Fault {
     NoLevel,
     Pair,
     Far,
+    Collapsed,
     Sunk,
     OtherWord,
     OtherLevel,
 }
 
-const FAULTS: [Fault; 10] = {
+const FAULTS: [Fault; 11] = {
     use self::Fault::*;
-    [Kind, Limit, Beyond, NoSign, NoLevel, Pair, Far, Sunk, OtherWord, OtherLevel]
+    [Kind, Limit, Beyond, NoSign, NoLevel, Pair, Far, Collapsed, Sunk, OtherWord, OtherLevel]
 };
 
 // A record with that fault; `before` is the id of the record before it.
@@ -121,6 +122,10 @@ fn spoil(r: &mut Random, record: &mut [u8], fault: Fault, known: &Known, before:
             let at = 8 + 4 * r.range(0, 2 * kind as i64 - 1) as usize;
             let far = coordinate_limit(kind) as i32 + 1;
             record[at..at + 4].copy_from_slice(&r.pick(&[far, -far, i32::MAX, i32::MIN]).to_le_bytes());
+        }
+        Fault::Collapsed => {
+            let (from, to) = two_corners(r, kind);
+            record.copy_within(8 + 8 * from..16 + 8 * from, 8 + 8 * to);
         }
         Fault::Sunk => record[..4].copy_from_slice(&r.pick(&[before, before, before.saturating_sub(1), 0]).to_le_bytes()),
         Fault::OtherWord => {
@@ -282,9 +287,9 @@ fn deep(out: &mut Vec<String>) {
     }
 }
 
-// Each fault alone, at several places.
-fn alone(r: &mut Random, stock: &[Known], out: &mut Vec<String>) {
-    for fault in FAULTS {
+// Each of these faults alone, at several places.
+fn alone(r: &mut Random, stock: &[Known], is_meant: impl Fn(Fault) -> bool, out: &mut Vec<String>) {
+    for fault in FAULTS.iter().copied().filter(|&f| is_meant(f)) {
         for version in [1, 2, 2, 2] {
             for (size, at) in [(1, 0), (2, 0), (2, 1), (5, 3)] {
                 let b = block(r, stock, version, size, &[(fault, at)]);
@@ -294,10 +299,10 @@ fn alone(r: &mut Random, stock: &[Known], out: &mut Vec<String>) {
     }
 }
 
-// Two faults each, in one record and in two, the one before the other and behind it.
-fn in_pairs(r: &mut Random, stock: &[Known], out: &mut Vec<String>) {
+// Two of these faults each, in one record and in two, the one before the other and behind it.
+fn in_pairs(r: &mut Random, stock: &[Known], are_meant: impl Fn(Fault, Fault) -> bool, out: &mut Vec<String>) {
     for (k, &f) in FAULTS.iter().enumerate() {
-        for &g in &FAULTS[k + 1..] {
+        for &g in FAULTS[k + 1..].iter().filter(|&&g| are_meant(f, g)) {
             for (size, a, b) in [(1, 0, 0), (2, 0, 1), (2, 1, 0), (3, 1, 2), (4, 3, 1)] {
                 let version = r.pick(&[1, 2, 2, 2, 2, 2]);
                 let b = block(r, stock, version, size, &[(f, a), (g, b)]);
@@ -421,8 +426,8 @@ pub fn questions(stock: &[Known]) -> Vec<String> {
     good(r, stock, &mut out);
     claims(r, stock, &mut out);
     deep(&mut out);
-    alone(r, stock, &mut out);
-    in_pairs(r, stock, &mut out);
+    alone(r, stock, |f| f != Fault::Collapsed, &mut out);
+    in_pairs(r, stock, |f, g| f != Fault::Collapsed && g != Fault::Collapsed, &mut out);
     wrongly_signed(r, stock, &mut out);
     versions(r, stock, &mut out);
     changed(r, stock, &mut out);
@@ -434,6 +439,8 @@ pub fn questions(stock: &[Known]) -> Vec<String> {
         out.push(format!("start {}", hex(&block(r, stock, 2, size, &[]))));
     }
     of_full_blocks(r, stock, &mut out);
+    alone(r, stock, |f| f == Fault::Collapsed, &mut out);
+    in_pairs(r, stock, |f, g| f == Fault::Collapsed || g == Fault::Collapsed, &mut out);
     out
 }
 
@@ -450,11 +457,12 @@ pub fn blocks(stock: &[Known]) -> Vec<Vec<u8>> {
             out.push(b);
         }
     }
-    for fault in FAULTS {
-        out.push(block(r, stock, 2, 1, &[(fault, 0)]));
-        out.push(block(r, stock, 2, 3, &[(fault, 1)]));
+    let faulty = |r: &mut Random, fault: Fault| [block(r, stock, 2, 1, &[(fault, 0)]), block(r, stock, 2, 3, &[(fault, 1)])];
+    for fault in FAULTS.iter().copied().filter(|&f| f != Fault::Collapsed) {
+        out.extend(faulty(r, fault));
     }
     out.push(full(r, stock));
+    out.extend(faulty(r, Fault::Collapsed));
     out
 }
 
@@ -469,7 +477,7 @@ pub fn floor_blocks(stock: &[Known]) -> Vec<(u8, Vec<u8>)> {
             out.push((p, block(r, &triangles, 2, size, &[])));
         }
     }
-    for fault in [Fault::Beyond, Fault::NoSign, Fault::OtherWord, Fault::OtherLevel] {
+    for fault in [Fault::Beyond, Fault::NoSign, Fault::OtherWord, Fault::OtherLevel, Fault::Collapsed] {
         out.push((50, block(r, stock, 2, 3, &[(fault, 1)])));
     }
     out

@@ -1,9 +1,10 @@
 // Gmsh texts, good and damaged, and blocks to append them to, from a fixed seed.
 
 use crate::block::{block_bytes, hex, Record};
-use crate::element::{coordinate_limit, Element, Num};
-use crate::mesh::places;
-use crate::sets::{shaken, Random};
+use crate::element::{collapsed, coordinate_limit, Element, Num};
+use crate::mesh::{kind_of, places};
+use crate::sets::{of_its_own, outermost, shaken, two_corners, Random};
+use crate::words::{whole_coordinate, whole_number};
 
 // A call of `append_mesh`.
 pub struct Question {
@@ -107,16 +108,21 @@ pub fn coordinate(r: &mut Random, x: Num) -> String {
     format!("{}{}{}{}", sign, r.pick(&["", "", "", "", "", "00"]), x.unsigned_abs(), r.pick(&["", "", "", "", ".0", ".000"]))
 }
 
+// A whole coordinate that is written already, in one of its ways.
+pub fn rewritten(r: &mut Random, word: &str) -> String {
+    coordinate(r, whole_coordinate(word.as_bytes()).expect("a whole coordinate") as Num)
+}
+
 // A number, now and then with zeros before it.
 pub fn number(r: &mut Random, n: u64) -> String {
     format!("{}{}", r.pick(&["", "", "", "", "", "", "", "0", "0000000000000"]), n)
 }
 
-// The coordinates of an element, sometimes at the limit of its kind.
+// The coordinates of an element, sometimes at the limit of its kind and then with its corners anywhere.
 pub fn coordinates(r: &mut Random, kind: u8) -> Vec<i64> {
     let most = coordinate_limit(kind);
     match r.range(0, 5) {
-        0 => (0..2 * kind as usize).map(|_| r.pick(&[most, -most, 0, most - 1, 1])).collect(),
+        0 => outermost(r, kind),
         1 => shaken(r, kind, most / 2, most / 12),
         _ => shaken(r, kind, 40, 5),
     }
@@ -131,22 +137,43 @@ pub fn gmsh_type(kind: u8) -> u64 {
     }
 }
 
+// Where the node of a row lies.
+fn listed_place(row: &[String]) -> [i64; 2] {
+    [1, 2].map(|k| whole_coordinate(row[k].as_bytes()).expect("a whole coordinate"))
+}
+
+// The nodes of an element in the order of Gmsh, each by its number and its row; the rows from `first` on are its own. While two corners are
+// at one place, the nodes come in another order, and x and y of a row are exchanged.
+fn uncollapse(kind: u8, nodes: &mut [(String, usize)], rows: &mut [Vec<String>], first: usize) {
+    let coords = |nodes: &[(String, usize)], rows: &[Vec<String>]| -> Vec<i64> {
+        places(kind).iter().flat_map(|&p| listed_place(&rows[nodes[p].1])).collect()
+    };
+    let r = &mut of_its_own(&coords(nodes, rows));
+    while collapsed(kind, &coords(nodes, rows)) {
+        shuffle(r, nodes);
+        let at = place(r, &rows[first..]);
+        rows[first + at].swap(1, 2);
+    }
+}
+
 // An element row of ours, its nodes new or, sometimes, one of those before.
 fn add_ours(r: &mut Random, d: &mut Draft, id: u64, kind: u8, base: u64, step: u64) {
     let at = coordinates(r, kind);
-    let mut own = vec![String::new(); kind as usize];
+    let (first, mut own) = (d.nodes.len(), vec![(String::new(), 0); kind as usize]);
     for (k, &p) in places(kind).iter().enumerate() {
         if !d.nodes.is_empty() && once_in(r, 12) {
-            own[p] = d.nodes[place(r, &d.nodes)][0].clone();
+            let listed = place(r, &d.nodes);
+            own[p] = (d.nodes[listed][0].clone(), listed);
             continue;
         }
         let n = base + step * d.nodes.len() as u64;
-        own[p] = number(r, n);
+        own[p] = (number(r, n), d.nodes.len());
         let z = pick_word(r, &["0", "0", "0", "0", "0", "-0", "+0", "0.0", "-0.000", "000"]);
         d.nodes.push(vec![number(r, n), coordinate(r, at[2 * k] as Num), coordinate(r, at[2 * k + 1] as Num), z]);
     }
+    uncollapse(kind, &mut own, &mut d.nodes, first);
     let mut row = vec![number(r, id), number(r, gmsh_type(kind)), pick_word(r, TAGS)];
-    row.extend(own);
+    row.extend(own.into_iter().map(|(number, _)| number));
     d.elements.push(row);
 }
 
@@ -187,9 +214,10 @@ fn draft(r: &mut Random, mut id: u64) -> Draft {
     d
 }
 
-// How many elements of ours a draft has.
-fn ours(d: &Draft) -> usize {
-    d.elements.iter().filter(|e| ["9", "10", "16"].contains(&e[1].trim_start_matches('0'))).count()
+// The elements of ours that a draft has, by their places, and their kinds.
+fn ours(d: &Draft) -> Vec<(usize, u8)> {
+    let kind = |row: &[String]| kind_of(whole_number(row[1].as_bytes())?);
+    d.elements.iter().enumerate().filter_map(|(k, row)| Some((k, kind(row)?))).collect()
 }
 
 // A section of rows behind their count.
@@ -276,6 +304,29 @@ fn unlist(r: &mut Random, d: &mut Draft) {
         d.nodes.remove(at);
     } else {
         d.nodes[at][0] = pick_word(r, &["777", "4294967295", "0778", "3333333333"]);
+    }
+}
+
+// Two corners of an element at one place: the same node, or two nodes.
+fn collapse(r: &mut Random, d: &mut Draft) {
+    let ours = ours(d);
+    if ours.is_empty() {
+        return;
+    }
+    let (at, kind) = r.pick(&ours);
+    let (from, to) = two_corners(r, kind);
+    let (from, to) = (3 + places(kind)[from], 3 + places(kind)[to]);
+    if once_in(r, 2) {
+        d.elements[at][to] = d.elements[at][from].clone();
+        return;
+    }
+    let number = |word: &str| whole_number(word.as_bytes());
+    let [from, to] = [from, to].map(|k| {
+        let listed = d.nodes.iter().position(|row| number(&row[0]) == number(&d.elements[at][k]));
+        listed.expect("a node that is listed")
+    });
+    for axis in [1, 2] {
+        d.nodes[to][axis] = rewritten(r, &d.nodes[from][axis]);
     }
 }
 
@@ -426,6 +477,7 @@ enum Fault {
     Lifted,
     Unlisted,
     Far,
+    Collapsed,
     Sunk,
     Form,
     Damage,
@@ -443,6 +495,9 @@ fn question(r: &mut Random, main: Fault) -> Question {
     let held = if has(Block) { r.pick(&[0, 1, 1, 2, 2, 3]) } else { r.pick(&[0, 0, 0, 0, 1, 1, 2]) };
     let last = r.pick(&[3, 5, 40]);
     let mut d = draft(r, if held > 0 { last as u64 } else { 0 });
+    if has(Collapsed) {
+        collapse(r, &mut d);
+    }
     if has(Lifted) {
         lift(r, &mut d);
     }
@@ -464,7 +519,7 @@ fn question(r: &mut Random, main: Fault) -> Question {
     if has(Form) && !wrong_row {
         text = misform(r, &text);
     }
-    let mut wanted = ours(&d);
+    let mut wanted = ours(&d).len();
     if has(Damage) {
         for _ in 0..r.pick(&[1, 1, 1, 2]) {
             text = damaged(r, &text);
@@ -472,7 +527,7 @@ fn question(r: &mut Random, main: Fault) -> Question {
     }
     if has(Joined) {
         let other = draft(r, 60);
-        wanted += ours(&other);
+        wanted += ours(&other).len();
         let more = written(r, &other);
         text.extend(more);
     }
@@ -490,6 +545,11 @@ fn question(r: &mut Random, main: Fault) -> Question {
     }
     let limit = if has(Limit) { r.pick(&[5, 5, 10, 11, 255]) } else { r.pick(&[0, 1, 3, 4]) };
     Question { text, limit, buffer, used }
+}
+
+// Whether the call is one of those that are kept.
+fn is_short(q: &Question) -> bool {
+    q.text.len() < 500 && q.buffer.len() < 400
 }
 
 // A text that is read, with sections of several kinds; some beginnings of it are read too.
@@ -529,11 +589,17 @@ pub fn questions() -> Vec<Question> {
     let mut out = beginnings();
     while out.len() < 3_000 {
         let q = question(&mut r, faults[out.len() % faults.len()]);
-        if q.text.len() < 500 && q.buffer.len() < 400 {
+        if is_short(&q) {
             out.push(q);
         }
     }
     out.push(nearly_full(&mut r, 799));
     out.push(nearly_full(&mut r, 800));
     out
+}
+
+// Calls with two corners of an element at one place, and perhaps with another fault.
+pub fn collapsed_questions() -> Vec<Question> {
+    let r = &mut Random(20_261_124);
+    std::iter::repeat_with(|| question(r, Fault::Collapsed)).filter(is_short).take(150).collect()
 }

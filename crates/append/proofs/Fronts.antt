@@ -44,10 +44,10 @@ stops-append k (first a p) t = later a (stops-append (less k) p t)
 -- ---- what those that pass have met
 pub passes-room : {low count room : ℕ} {gs : List Given} → Passes low count room gs → 80 * length gs ≤ room
 passes-room empty = omega arith
-passes-room (first a p) = omega (arith, passes-room p, N.lt-of-not-le (a .1 .1 .1 .1 .1 .1 .0))
+passes-room (first a p) = omega (arith, passes-room p, N.lt-of-not-le (a .1 .1 .1 .1 .1 .1 .1 .0))
 
 pub passes-few : {low count room : ℕ} {gs : List Given} → count ≤ 800 → Passes low count room gs → count + length gs ≤ 800
 passes-few h empty = omega arith
 passes-few h (first a p) =
-    let n = N.lt-of-not-le (a .1 .1 .1 .1 .1 .0) in
+    let n = N.lt-of-not-le (a .1 .1 .1 .1 .1 .1 .0) in
     omega (arith, passes-few n p)

@@ -54,6 +54,7 @@ module _ {l : List ℕ} {room id n level : ℕ} {xs : List ℤ} (s : RoomSound l
         level-allowed = s .element .1 .0;
         nine-pairs = padded-length xs (omega (arith, given, known-small n (s .element .0)));
         inside = rw (padded-used xs (2 * n) given) (s .element .1 .1 .1 .0);
+        corners-differ = rw (padded-used xs (2 * n) given) (s .element .1 .1 .1 .1 .0);
         rest-zero = λ k. padded-rest xs (2 * n) k given;
         sign-level = λ s. s .0 .0 refl;
         sign-known = ⊎-elim N.not-suc-le-zero (λ s. s .1 refl);

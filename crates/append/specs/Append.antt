@@ -1,5 +1,5 @@
 -- A record to append, and the order of codes (01, "Codes and what they leave": "Append: 5 for `used`, block, then 1, 2, 3, 4, 10, 11,
--- 5 for room. Starting a block: 5").
+-- 5 for room. Starting a block: 5"; 02, Ask 9: 21 "directly after 4").
 --   padded xs      == nine pairs: the coordinates xs, and then zeros
 --   newRecord id n level xs == the record of what is given
 --   followCodes low count room id == codes 10, 11 and 5: behind a block of so many records, with so many bytes behind it, where low is

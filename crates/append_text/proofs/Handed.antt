@@ -15,13 +15,14 @@ use lib.IntN.{ℤ}
 use lib.ListN.{length, take, drop, length-map, length-take}
 use lib.Seq.{take-all}
 use Rattle.element.specs.Kinds.{Kind, six, eight, nine, NotKind, kindOf, greatestLevel}
+use Rattle.element.specs.Corners.{Collapsed}
 use Rattle.element.specs.Refusals.{Accepted, AboveLevel, WrongLength, Outside}
 use Rattle.append.specs.Append.{padded, followCodes}
 use Rattle.append.specs.Series.{Given, given, nextCodes}
 use Rattle.batch.proofs.Same.{SameCodes, same-code, codes-refl}
 use Rattle.batch.specs.Stands.{Stands}
 use Rattle.batch.proofs.Clip.{Clips, no-clips, clip, clips-stands}
-use Rattle.batch.proofs.Stands.{outside-to, outside-back, stands-same}
+use Rattle.batch.proofs.Stands.{outside-to, outside-back, stands-same, collapsed-to, collapsed-back}
 use Rattle.mesh_text.specs.Rows.{first, rest}
 use Rattle.mesh_text.specs.Tests.{numberOf, valueOf, clipped}
 use Rattle.mesh_text.proofs.Rows.{by-test}
@@ -122,13 +123,23 @@ module _ (low count room : ℕ) (ws : List (List ℕ)) where
       out-back : Outside (kindOf n) (all us) → Outside (kindOf (min 255 n)) (few us)
       out-back h = subst (λ m. Outside (kindOf m) (few us)) (sym e) (outside-back (kindOf n) (few us) (all us) stands h)
 
+      fold-to : ¬ Outside (kindOf (min 255 n)) (few us) → Collapsed (kindOf (min 255 n)) (few us) → Collapsed (kindOf n) (all us)
+      fold-to f h =
+          collapsed-to (kindOf n) (few us) (all us) stands (subst (λ m. ¬ Outside (kindOf m) (few us)) e f) (subst (λ m. Collapsed (kindOf m) (few us)) e h)
+
+      fold-back : ¬ Outside (kindOf (min 255 n)) (few us) → Collapsed (kindOf n) (all us) → Collapsed (kindOf (min 255 n)) (few us)
+      fold-back f h =
+          subst (λ m. Collapsed (kindOf m) (few us)) (sym e)
+          (collapsed-back (kindOf n) (few us) (all us) stands (subst (λ m. ¬ Outside (kindOf m) (few us)) e f) h)
+
   pub handed-codes : SameCodes (nextCodes low count room (handed ws)) (nextCodes low count room (givenOf ws))
   handed-codes =
       same-code (kind-same n) (same-kind n)
       (λ k. same-code (level-to k) (level-back k)
       (λ _. same-code (wrong-to k) (wrong-back k)
       (λ r. same-code (out-to k r) (out-back k r)
-      (λ _. codes-refl (followCodes low count room (numberOf (first ws)))))))
+      (λ f. same-code (fold-to k r f) (fold-back k r f)
+      (λ _. codes-refl (followCodes low count room (numberOf (first ws))))))))
 
   pub handed-given : Accepted (nextCodes low count room (givenOf ws)) → given (handed ws) ≡ given (givenOf ws)
   handed-given a =

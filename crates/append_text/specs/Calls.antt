@@ -53,7 +53,7 @@ pub record NotOpened (t b : List ℕ) (used : ℕ) (r : Texted) (a : List ℕ) :
   pub zeros : r ≡ refusal (spotOf r)
   pub untouched : a ≡ b
 
--- "then line by line 1, 2, 3, 4, 10, 11, 5"; `left` and `up` are what the appends of the lines before leave
+-- "then line by line 1, 2, 3, 4, 10, 11, 5", with 21 after 4; `left` and `up` are what the appends of the lines before leave
 pub record NotTaken (t b : List ℕ) (used : ℕ) (r : Texted) (a : List ℕ) : Type 0 where
   pub accepted : Accepted (textCodes t b used)
   pub before : List Line

@@ -1,6 +1,7 @@
 -- A list that stands for another is tried as the other is.
 --   outside-to, outside-back : it is outside where the other is
 --   stands-same    : where the other passes it is the same
+--   collapsed-to, collapsed-back : it then has corners at one place where the other has
 --   stands-codes   : the codes of a record with the one are those with the other
 --   stands-coords  : where it passes the two are the same
 --   narrowed-length, narrowed-stands : what is narrowed stands for the numbers, where they are as many as the kind has
@@ -16,6 +17,7 @@ use lib.ListN.{length, take, replicate, set}
 use lib.Seq.{length-take-le}
 use Rattle.element.specs.Kinds.{Kind, six, eight, nine, NotKind, kindOf, nodeCount}
 use Rattle.element.specs.Origin.{Unheld}
+use Rattle.element.specs.Corners.{Collapsed}
 use Rattle.element.specs.Refusals.{Accepted, AboveLevel, WrongLength, Outside}
 use Rattle.element.proofs.Ranges.{unheld-or, unheld-outside}
 use Rattle.element.proofs.Origin.{node-count}
@@ -43,6 +45,13 @@ module _ (k : Kind) (xs ys : List ℤ) (s : Stands k xs ys) where
   pub stands-same : ¬ Outside k ys → xs ≡ ys
   stands-same f = s .same (λ u. f (unheld-outside k ys u))
 
+  -- past 4 the two are the same, and so is what stands behind it
+  pub collapsed-to : ¬ Outside k xs → Collapsed k xs → Collapsed k ys
+  collapsed-to f c = subst (Collapsed k) (stands-same (λ o. f (outside-back o))) c
+
+  pub collapsed-back : ¬ Outside k xs → Collapsed k ys → Collapsed k xs
+  collapsed-back f c = subst (Collapsed k) (sym (stands-same (λ o. f (outside-back o)))) c
+
 -- ---- a record
 module _ (low count room id kind limit : ℕ) {xs ys : List ℤ} (e : length xs ≡ length ys)
     (s : ¬ NotKind kind → ¬ WrongLength kind xs → Stands (kindOf kind) xs ys) where
@@ -58,7 +67,8 @@ module _ (low count room id kind limit : ℕ) {xs ys : List ℤ} (e : length xs 
       (λ f. same-code (same (AboveLevel k limit)) (same (AboveLevel k limit))
       (λ _. same-code to back
       (λ g. same-code (outside-to k xs ys (s f g)) (outside-back k xs ys (s f g))
-      (λ _. codes-refl (followCodes low count room id)))))
+      (λ h. same-code (collapsed-to k xs ys (s f g) h) (collapsed-back k xs ys (s f g) h)
+      (λ _. codes-refl (followCodes low count room id))))))
 
   pub stands-coords : Accepted (nextCodes low count room (record { id = id; kind = kind; limit = limit; coords = ys })) → xs ≡ ys
   stands-coords a = stands-same (kindOf kind) xs ys (s (a .0) (λ f. a .1 .1 .0 (λ y. f (e ∙ y)))) (a .1 .1 .1 .0)

@@ -29,7 +29,7 @@ module _ (s : Tally) (g : Given) where
       (then-accepted (verdictCodes (g .kind) (g .limit) (g .coords)) (followCodes (s .low) (s .count) (s .room) (g .id)) a .0)
 
   pub tried-room : Tried → (s .count < 800) × (80 ≤ s .room)
-  tried-room a = (N.lt-of-not-le (a .1 .1 .1 .1 .1 .0), omega (arith, N.lt-of-not-le (a .1 .1 .1 .1 .1 .1 .0)))
+  tried-room a = (N.lt-of-not-le (a .1 .1 .1 .1 .1 .1 .0), omega (arith, N.lt-of-not-le (a .1 .1 .1 .1 .1 .1 .1 .0)))
 
   pub taken-halted : (t : Tally) (b : List ℕ) → Refused (nextCodes (s .low) (s .count) (s .room) g) (t .code) → Halted (g ∷ []) s b t b
   taken-halted t b r = record { stops = here r; long = refl }

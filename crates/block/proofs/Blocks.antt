@@ -25,6 +25,7 @@ use Rattle.endian.proofs.Places.{length-part, bytes-part}
 use Rattle.record.specs.declared.Record.{Record}
 use Rattle.record.specs.Record.{WellFormed, recordBytes, blank}
 use Rattle.record.specs.Faults.{recordCodes}
+use Rattle.record.proofs.Order.{passed-above}
 use Rattle.record.proofs.Codec.{part-more, record-length, read-written, written-read, stored-formed, formed-stored}
 use Rattle.signs.specs.Signs.{Differs}
 use Rattle.block.specs.Block.{Version, header, recordsBytes, blockBytes, record-of, Holds, versionOf, countOf, place, recordAt, records-from, records-in}
@@ -174,7 +175,7 @@ accepted-holds l p a =
       formed = λ k i. let j = rw n at i in
           subst (WellFormed (versionOf l)) (sym (in-at l k j)) (form-formed l p (accepted-form l a) k j);
       rise = λ k i. let j = rw n at i in
-          let m = accepted-at l a (suc k) j .1 .1 .1 .1 .0 in
+          let m = passed-above (versionOf l) l (place (suc k)) (lowest l (suc k)) (accepted-at l a (suc k) j) in
           rw (in-at l k (omega arith), in-at l (suc k) j) (N.le-of-suc-le-suc (N.lt-of-not-le m));
       kept = λ k i. let j = rw n at i in subst (λ (r : Record). ¬ Differs r) (sym (in-at l k j)) (accepted-kept l a k j);
     }

@@ -136,6 +136,7 @@ module _ {v : ℕ} {l : List ℕ} {rs : List Record} (h : Holds v l rs) (k : ℕ
         level-allowed = b;
         nine-pairs = w .nine-pairs;
         inside = w .inside;
+        corners-differ = w .corners-differ;
         rest-zero = w .rest-zero;
         sign-level = w .sign-level;
         sign-known = w .sign-known;

@@ -2,6 +2,9 @@
 --   checked-block   : a block is accepted, with the count of its records: a check that refuses everything is shut out
 --   checked-only    : and bytes that are accepted are a block
 --   count-beyond    : a count above 800 is code 8, however long the bytes are: a product that wraps is shut out
+--   collapsed-record : the first record with a fault that has two corners at one place, and none that counts before that, is named with 21,
+--                     whatever its id and its sign and whatever stands behind it
+--   checked-apart   : in a block that is accepted the corners of every record differ
 --   fetched-record, fetched-none : record k of a block, and none where k is not below the count
 --   fetched-zero    : a fetch from a block of version 1 answers 0 and 0 for the two bytes
 --   fetched-rises   : two records differ: a fetch that gives record 0 each time is shut out
@@ -14,16 +17,21 @@ use native.Mathlib.Nat as N
 use native.Mathlib.Omega.{arith}
 use native.Mathlib.Decide.{decLe}
 use lib.ListN.{length}
+use Rattle.element.specs.Kinds.{NotKind, kindOf}
+use Rattle.element.specs.Corners.{Collapsed}
+use Rattle.element.specs.Refusals.{Accepted, Outside}
 use Rattle.endian.specs.Numbers.{Bytes}
 use Rattle.record.specs.declared.Record.{Record}
-use Rattle.record.specs.Record.{blank}
+use Rattle.record.specs.Record.{used, blank}
+use Rattle.record.specs.Faults.{TooHigh, NotZero}
 use Rattle.record.proofs.Signs.{zero-signs}
+use Rattle.record.proofs.Order.{corners-first, passed-apart}
 use Rattle.block.specs.declared.Checked.{Checked}
 use Rattle.block.specs.declared.Fetched.{Fetched}
-use Rattle.block.specs.Block.{record-of, Holds, versionOf, countOf, records-in}
-use Rattle.block.specs.Faults.{NotBlock, OtherVersion}
+use Rattle.block.specs.Block.{record-of, Holds, versionOf, countOf, place, recordAt, records-in}
+use Rattle.block.specs.Faults.{NotBlock, OtherVersion, headerCodes, lowest, codesAt}
 use Rattle.block.specs.Calls.{Checks, fetched, Fetches}
-use Rattle.block.proofs.Walk.{header-refused, form-refused}
+use Rattle.block.proofs.Walk.{Passed, header-refused, form-refused, walk-refused, accepted-at}
 use Rattle.block.proofs.Answers.{checks-unique, checks-counted, fetch-beyond, fetch-accepted, fetches-unique}
 use Rattle.block.proofs.Blocks.{block-count, held-record, holds-accepted, accepted-holds}
 
@@ -38,6 +46,29 @@ pub count-beyond : (l : List ℕ) (r : Checked) → ¬ NotBlock l
 count-beyond l r a b h c =
     checks-unique l r (record { code = 8; number = 0; count = 0 }) c
     (inl (record { refused = form-refused l (record { code = 8; number = 0 }) (header-refused l 8 (inr (a, inr (b, inl (inl h, refl))))); no-count = refl }))
+
+-- ---- corners at one place (02, Ask 9: "a block that holds one is refused at that record")
+module _ (l : List ℕ) (r : Checked) (c : Checks l r) (k : ℕ) (i : k < countOf l) where
+  abbrev here : Record
+  here = recordAt l k
+
+  pub collapsed-record : Accepted (headerCodes l) → Passed (codesAt l) k
+      → ¬ NotKind (here .kind)
+      → ¬ TooHigh (versionOf l) here
+      → ¬ NotZero (versionOf l) here
+      → ¬ Outside (kindOf (here .kind)) (used here)
+      → Collapsed (kindOf (here .kind)) (used here)
+      → r ≡ record { code = 21; number = k; count = 0 }
+  collapsed-record a p d e f g h =
+      checks-unique l r (record { code = 21; number = k; count = 0 }) c
+      (inl (record {
+        refused = form-refused l (record { code = 21; number = k })
+            (walk-refused l k 21 a i p (corners-first (versionOf l) l (place k) (lowest l k) d e f g h));
+        no-count = refl;
+      }))
+
+  pub checked-apart : r .code ≡ 0 → ¬ Collapsed (kindOf (here .kind)) (used here)
+  checked-apart e = passed-apart (versionOf l) l (place k) (lowest l k) (accepted-at l (checks-counted l r c e .accepted) k i)
 
 module _ {v : ℕ} {l : List ℕ} {rs : List Record} (h : Holds v l rs) where
   pub checked-block : (r : Checked) → Checks l r → r ≡ record { code = 0; number = 0; count = length rs }

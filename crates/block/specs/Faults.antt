@@ -1,5 +1,6 @@
 -- The faults of a block and their order (01, "Codes and what they leave": "Block: 6, 7, 8, then record by record 1, 2, 9, 4, 10. Fetch:
--- block, 12"; 02, Ask 4: "last in every block check, 19 for the first signed record whose verdict or level differs").
+-- block, 12"; 02, Ask 9: 21 "directly after 4"; 02, Ask 4: "last in every block check, 19 for the first signed record whose verdict or level
+-- differs").
 --   Fault           == what names a fault: a code, and the record number ("for faults in a stored record, else 0")
 --   naming k o      == the faults of o, named with the record number k
 --   each o n k      == the orders o k, o (k + 1), .. of n records from record k on, each named with its number

@@ -55,7 +55,8 @@ module _ (n : ℕ) (xs before : List ℤ) where
   earlier c (inl f) = inl f
   earlier c (inr (f, inl g)) = inr (f, inl g)
   earlier c (inr (f, inr (g, inl h))) = inr (f, inr (g, inl h))
-  earlier c (inr (f, inr (g, inr (h, none)))) = absurd none
+  earlier c (inr (f, inr (g, inr (h, inl d)))) = inr (f, inr (g, inr (h, inl d)))
+  earlier c (inr (f, inr (g, inr (h, inr (d, none))))) = absurd none
 
   pub refuses : {r : Controlled} (c : ℕ) → Coded (boundsCodes n xs) c
       → ¬ (c ≡ 0)
@@ -68,9 +69,9 @@ module _ (n : ℕ) (xs before : List ℤ) where
       → ShortRoom (kindOf n) (length before)
       → r ≡ controlled 5 0
       → ControlValues n xs before r before
-  too-short (f, (g, (h, none))) s q =
+  too-short (f, (g, (h, (d, none)))) s q =
       subst (λ (r : Controlled). ControlValues n xs before r before) (sym q)
-      (inl (record { refused = inr (f, inr (g, inr (h, inl (s, refl)))); zeros = refl; untouched = refl }))
+      (inl (record { refused = inr (f, inr (g, inr (h, inr (d, inl (s, refl))))); zeros = refl; untouched = refl }))
 
   pub succeeds : {values after : List ℤ} {count : ℕ} {r : Controlled}
       → Accepted (boundsCodes n xs)
@@ -80,10 +81,10 @@ module _ (n : ℕ) (xs before : List ℤ) where
       → after ≡ values ++ drop (length values) before
       → r ≡ controlled 0 count
       → ControlValues n xs before r after
-  succeeds (f, (g, (h, none))) m s e q t =
+  succeeds (f, (g, (h, (d, none)))) m s e q t =
       inr
       (record {
-        accepted = (f, (g, (h, (s, tt))));
+        accepted = (f, (g, (h, (d, (s, tt)))));
         answer = t ∙ ap (controlled 0) m;
         filled = q
             ∙ ap (λ (l : List ℤ). l ++ drop (length l) before) e

@@ -43,7 +43,7 @@ control-values-unique n xs before r s a b (inr u) (inr v) = (u .answer ∙ sym (
 
 pub count-room : {n : ℕ} {xs before after : List ℤ} {r : Controlled} → ControlValues n xs before r after → r .count ≤ length before
 count-room (inl p) = omega (arith, ap (λ (q : Controlled). q .count) (p .zeros))
-count-room (inr p) = omega (arith, N.le-of-suc-le-suc (N.lt-of-not-le (p .accepted .1 .1 .1 .0)), ap (λ (q : Controlled). q .count) (p .answer))
+count-room (inr p) = omega (arith, N.le-of-suc-le-suc (N.lt-of-not-le (p .accepted .1 .1 .1 .1 .0)), ap (λ (q : Controlled). q .count) (p .answer))
 
 -- ---- bounds
 pub bounds-of-unique : (c : List ℤ) (a b : Bounds) → BoundsOf c a → BoundsOf c b → a ≡ b

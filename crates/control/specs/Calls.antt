@@ -67,7 +67,7 @@ abbrev pub Told : Bounded → Type 0
 Told (Both b) = Unit {0}
 Told (Code c) = ⊥
 
--- codes 1, 3, 4, and zero in all other fields
+-- codes 1, 3, 4, 21, and zero in all other fields
 pub record NoBounds (n : ℕ) (xs : List ℤ) (r : Bounded) : Type 0 where
   pub refused : Refused (boundsCodes n xs) (codeOf r)
   pub no-number : numberOf r ≡ 0

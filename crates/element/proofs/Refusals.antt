@@ -7,15 +7,21 @@
 --   coded-here, coded-past, coded-end : the code of a call, test by test
 --   coded-first, coded-then : the code of two orders, by the first, and by the second where the first has no fault
 --   refused-some, coded-some, coded-none : codes that are not 0, and those that are; `numbered o` says that no fault has the code 0
+--   outside-first    : of an element's nodes 4 comes first, whatever the corners
+--   collapsed-next   : and then 21, whatever stands behind
 -- For every order of codes. Assumes nothing.
 use mathlib.Core.Path.{_≡_, refl, sym, _∙_}
 use mathlib.Core.Logic.{_⊎_, inl, inr, ⊎-elim}
 use mathlib.Core.Bool.{Bool, true, _&&_}
+use mathlib.Core.List.{List}
 use Prim.Native.Nat.{ℕ}
 use native.Mathlib.Nat as N
 use lib.Dec.{T, ltb, ltb→lt}
+use lib.IntN.{ℤ}
 use Rattle.algebra.proofs.Truth.{T-and}
-use Rattle.element.specs.Refusals.{Codes, no-more, code, _then_, Refused, Accepted, Coded, refused, accepted}
+use Rattle.element.specs.Kinds.{Kind}
+use Rattle.element.specs.Corners.{Collapsed}
+use Rattle.element.specs.Refusals.{Codes, no-more, code, _then_, Refused, Accepted, Coded, refused, accepted, Outside, nodeCodes}
 
 pub refused-unique : {A : Type 0} (o : Codes A) (a b : A) → Refused o a → Refused o b → a ≡ b
 refused-unique no-more a b p q = absurd p
@@ -89,3 +95,11 @@ coded-first o p c q h = refused (refused-then o p c (coded-some q h))
 pub coded-then : (o p : Codes ℕ) (c : ℕ) → Accepted o → Coded p c → Coded (o then p) c
 coded-then o p c a (refused r) = refused (past-then o p c a r)
 coded-then o p c a (accepted w e) = accepted (accepted-then o p a w) e
+
+-- ---- the codes of an element's nodes; o is the order behind them
+module _ (k : Kind) (xs : List ℤ) (o : Codes ℕ) where
+  pub outside-first : Outside k xs → Refused (nodeCodes k xs o) 4
+  outside-first h = inl (h, refl)
+
+  pub collapsed-next : ¬ Outside k xs → Collapsed k xs → Refused (nodeCodes k xs o) 21
+  collapsed-next g c = inr (g, inl (c, refl))

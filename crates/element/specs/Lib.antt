@@ -10,4 +10,6 @@ pub mod Paper
 pub mod Cells
 pub mod Bounds
 pub mod Origin
+pub mod Corners
+pub mod Edges
 pub mod Refusals

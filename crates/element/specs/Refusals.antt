@@ -5,7 +5,9 @@
 --   Accepted o       == no fault of the order is there
 --   Coded o c        == c is the code of a call with this order: 0 when it is accepted
 --   Beyond n xs, Astray n xs == some number is beyond n; xs is not within n, neither as it stands nor from the first node
---   NotKind n, AboveLevel k l, WrongLength n xs, Outside k xs, ShortRoom k room == the faults of an element
+--   NotKind n, AboveLevel k l, WrongLength n xs, Outside k xs, Collapsed k xs, ShortRoom k room == the faults of an element
+--   nodeCodes k xs o == what is asked of an element's nodes, wherever they stand: 4, then 21; and then the order o
+--   elementCodes n xs o == what is asked of a coordinate list, and then the order o
 --   controlCodes, boundsCodes, verdictCodes == the orders of the calls
 -- Definitions only.
 use mathlib.Core.Path.{_≡_}
@@ -17,6 +19,7 @@ use lib.ListN.{length}
 use Rattle.element.specs.Kinds.{Kind, kindOf, NotKind, coordinateLimit, greatestLevel, valueCount}
 use Rattle.element.specs.Control.{at}
 use Rattle.element.specs.Origin.{fromFirst, Unheld}
+use Rattle.element.specs.Corners.{Collapsed}
 
 pub data Codes (A : Type 0) : Type 1 where
   no-more : Codes A
@@ -65,9 +68,13 @@ abbrev pub ShortRoom : Kind → ℕ → Type 0
 ShortRoom k room = room < valueCount k
 
 -- ---- the orders
+-- "21, directly after 4 wherever 4 stands" (02, Ask 9)
+abbrev pub nodeCodes : Kind → List ℤ → Codes ℕ → Codes ℕ
+nodeCodes k xs o = code 4 (Outside k xs) (code 21 (Collapsed k xs) o)
+
 -- "Control values and bounds: 1, 3, 4, then 5 (control values only)"
 abbrev pub elementCodes : ℕ → List ℤ → Codes ℕ → Codes ℕ
-elementCodes n xs o = code 3 (WrongLength n xs) (code 4 (Outside (kindOf n) xs) o)
+elementCodes n xs o = code 3 (WrongLength n xs) (nodeCodes (kindOf n) xs o)
 
 abbrev pub controlCodes : ℕ → List ℤ → ℕ → Codes ℕ
 controlCodes n xs room = code 1 (NotKind n) (elementCodes n xs (code 5 (ShortRoom (kindOf n) room) no-more))
@@ -75,6 +82,6 @@ controlCodes n xs room = code 1 (NotKind n) (elementCodes n xs (code 5 (ShortRoo
 abbrev pub boundsCodes : ℕ → List ℤ → Codes ℕ
 boundsCodes n xs = code 1 (NotKind n) (elementCodes n xs no-more)
 
--- "Verdict: 1, 2, 3, 4"
+-- "Verdict: 1, 2, 3, 4", with 21 after 4
 abbrev pub verdictCodes : ℕ → ℕ → List ℤ → Codes ℕ
 verdictCodes n l xs = code 1 (NotKind n) (code 2 (AboveLevel (kindOf n) l) (elementCodes n xs no-more))

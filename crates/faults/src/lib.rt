@@ -1,9 +1,15 @@
-// The faults of an element that the calls test: its kind (1), its level limit (2), the length of its coordinate list (3), its limit (4).
+// The faults of an element that the calls test: its kind (1), its level limit (2), the length of its coordinate list (3), its limit (4),
+// corners at one place (21).
 use points::ranged;
 ghost use mathlib.Core.Path.{_≡_};
 ghost use mathlib.Core.Bool.{true, false};
-ghost use Rattle.element.specs.Kinds.{NotKind, kindOf, greatestLevel};
-ghost use Rattle.element.specs.Refusals.{Outside, no-more, Coded, elementCodes, boundsCodes, verdictCodes};
+ghost use mathlib.Core.List.{[], _∷_};
+ghost use Prim.Native.Nat.{_+_, _*_, _<_};
+ghost use lib.ListN.{length};
+ghost use Rattle.element.specs.Kinds.{six, NotKind, kindOf, greatestLevel};
+ghost use Rattle.element.specs.Corners.{SamePlace, SameTwo};
+ghost use Rattle.faults.specs.Quads.{quadCodes};
+ghost use Rattle.element.specs.Refusals.{no-more, Coded, nodeCodes, elementCodes, boundsCodes, verdictCodes};
 
 // Whether there is a kind of that many nodes.
 pub fn known(kind: u8) -> bool
@@ -19,18 +25,6 @@ pub fn known(kind: u8) -> bool
     kind == 9
 }
 
-// Whether all coordinates are within the limit of the kind, as they stand or from the first node. Each limit stands in a call, so that none
-// is looked up for a coordinate.
-pub fn inside(kind: u8, coords: &[i32]) -> bool
-    ensures yes { λ r. ⌜ (r ≡ true → ¬ Outside (kindOf kind) (now (coords .entry))) ⌝ }
-    ensures no { λ r. ⌜ (r ≡ false → Outside (kindOf kind) (now (coords .entry))) ⌝ }
-{
-    if kind == 6 {
-        return ranged(coords, 65536);
-    }
-    ranged(coords, 2048)
-}
-
 // The greatest level of the kind.
 pub fn greatest_level(kind: u8) -> u8
     ensures { λ r. ⌜ r ≡ greatestLevel (kindOf kind) ⌝ }
@@ -41,20 +35,114 @@ pub fn greatest_level(kind: u8) -> u8
     4
 }
 
-// Code 3 or 4, or 0.
+// Whether the nodes a and b stand at one place.
+fn same_place(coords: &[i32], a: usize, b: usize) -> bool
+    requires { ⌜ (2 * a + 1 < length (now coords)) × (2 * b + 1 < length (now coords)) ⌝ }
+    ensures yes { λ r. ⌜ (r ≡ true → SamePlace (now (coords .entry)) a b) ⌝ }
+    ensures no { λ r. ⌜ (r ≡ false → ¬ SamePlace (now (coords .entry)) a b) ⌝ }
+{
+    if coords[2 * a] != coords[2 * b] {
+        return false;
+    }
+    coords[2 * a + 1] == coords[2 * b + 1]
+}
+
+// Whether two of three nodes do.
+fn three(coords: &[i32], p: usize, q: usize, r: usize) -> bool
+    requires { ⌜ (p < r) × (q < r) × (2 * r + 1 < length (now coords)) ⌝ }
+    ensures yes { λ y. ⌜ (y ≡ true → SameTwo (now (coords .entry)) (p ∷ q ∷ r ∷ [])) ⌝ }
+    ensures no { λ y. ⌜ (y ≡ false → ¬ SameTwo (now (coords .entry)) (p ∷ q ∷ r ∷ [])) ⌝ }
+{
+    if same_place(coords, p, q) {
+        return true;
+    }
+    if same_place(coords, p, r) {
+        return true;
+    }
+    same_place(coords, q, r)
+}
+
+// Whether two of four nodes do: as corners of a quad, first those that an edge joins and then the two diagonals.
+fn four(coords: &[i32], a: usize, b: usize, c: usize, d: usize) -> bool
+    requires { ⌜ (a < d) × (b < d) × (c < d) × (2 * d + 1 < length (now coords)) ⌝ }
+    ensures yes { λ r. ⌜ (r ≡ true → SameTwo (now (coords .entry)) (a ∷ b ∷ c ∷ d ∷ [])) ⌝ }
+    ensures no { λ r. ⌜ (r ≡ false → ¬ SameTwo (now (coords .entry)) (a ∷ b ∷ c ∷ d ∷ [])) ⌝ }
+{
+    if same_place(coords, a, b) {
+        return true;
+    }
+    if same_place(coords, a, c) {
+        return true;
+    }
+    if same_place(coords, b, d) {
+        return true;
+    }
+    if same_place(coords, c, d) {
+        return true;
+    }
+    if same_place(coords, a, d) {
+        return true;
+    }
+    same_place(coords, b, c)
+}
+
+// Code 4 or 21, or 0, of a triangle's nodes. Each limit stands in a call, so that none is looked up for a coordinate.
+fn triangle_code(coords: &[i32]) -> u8
+    requires { ⌜ length (now coords) ≡ 12 ⌝ }
+    ensures { λ r. ⌜ Coded (nodeCodes six (now (coords .entry)) no-more) r ⌝ }
+{
+    if !ranged(coords, 65536) {
+        return 4;
+    }
+    if three(coords, 0, 1, 2) {
+        return 21;
+    }
+    0
+}
+
+// The same of a quad's nodes, whose corners are 0, 2, c and d.
+fn quad_code(coords: &[i32], c: usize, d: usize) -> u8
+    requires { ⌜ (2 < c) × (c < d) × (2 * d + 1 < length (now coords)) ⌝ }
+    ensures { λ r. ⌜ Coded (quadCodes (now (coords .entry)) c d) r ⌝ }
+{
+    if !ranged(coords, 2048) {
+        return 4;
+    }
+    if four(coords, 0, 2, c, d) {
+        return 21;
+    }
+    0
+}
+
+// Code 4 or 21, or 0.
+pub fn node_code(kind: u8, coords: &[i32]) -> u8
+    requires { ⌜ ¬ NotKind kind × (length (now coords) ≡ 2 * kind) ⌝ }
+    ensures { λ r. ⌜ Coded (nodeCodes (kindOf kind) (now (coords .entry)) no-more) r ⌝ }
+{
+    if kind == 6 {
+        return triangle_code(coords);
+    }
+    if kind == 8 {
+        return quad_code(coords, 5, 7);
+    }
+    quad_code(coords, 6, 8)
+}
+
+// Code 3, 4 or 21, or 0. A triangle's kind stands in its call, so that no loop over its coordinates is left.
 pub fn list_code(kind: u8, coords: &[i32]) -> u8
+    requires { ⌜ ¬ NotKind kind ⌝ }
     ensures { λ r. ⌜ Coded (elementCodes kind (now (coords .entry)) no-more) r ⌝ }
 {
     if coords.len() != 2 * (kind as usize) {
         return 3;
     }
-    if !inside(kind, coords) {
-        return 4;
+    if kind == 6 {
+        return node_code(6, coords);
     }
-    0
+    node_code(kind, coords)
 }
 
-// Code 1, 3 or 4, or 0.
+// Code 1, 3, 4 or 21, or 0.
 pub fn element_code(kind: u8, coords: &[i32]) -> u8
     ensures { λ r. ⌜ Coded (boundsCodes kind (now (coords .entry))) r ⌝ }
 {
@@ -64,7 +152,7 @@ pub fn element_code(kind: u8, coords: &[i32]) -> u8
     list_code(kind, coords)
 }
 
-// Code 1, 2, 3 or 4, or 0.
+// Code 1, 2, 3, 4 or 21, or 0.
 pub fn verdict_code(kind: u8, limit: u8, coords: &[i32]) -> u8
     ensures { λ r. ⌜ Coded (verdictCodes kind limit (now (coords .entry))) r ⌝ }
 {

@@ -16,16 +16,17 @@ use Rattle.forms.specs.Rows.{weigh}
 use Rattle.forms.specs.Forms.{value}
 use Rattle.forms.specs.Shapes.{scaled}
 use Rattle.forms.specs.Cuttings.{leaves, level, opens, greedy}
+use Rattle.element.specs.Corners.{Collapsed}
 use Rattle.element.specs.Refusals.{WrongLength, Outside}
 use Rattle.element.specs.Kinds.{six}
 use Rattle.element.specs.Nodes.{A0, A1, A2, M01, M12, M02}
 use Rattle.element.specs.Control.{values6, controlValues}
+use Rattle.element.proofs.Tried.{sound, list-accepted}
 use Rattle.judge.specs.Twelve.{F, G}
 use Rattle.judge.proofs.Computed.{low, inRow, rowLow, firstRow, cellsOf, least-count, inRowTold, from, verdict, verdict-is}
 use Rattle.judge.proofs.Search.{least}
 use Rattle.verdict.specs.Calls.{given, refusal}
 use Rattle.verdict.specs.declared.Judged.{Judged}
-use Rattle.verdict.proofs.Twelve.{listed, list-accepted}
 use Rattle.floor.specs.Floor.{straight, floored}
 use Rattle.floor.specs.Calls.{AboveSeven, NoPercent, FloorOf}
 use Rattle.floor.specs.Examples.{mirrored, Row, examples, Called, AllCalled}
@@ -56,7 +57,7 @@ abbrev measured : ℕ → ℕ → Bool
 measured l p = leb l 7 && (leb 1 p && leb p 99)
 
 abbrev tried : Row → Bool
-tried r = listed six (r .coords) && measured (r .limit) (r .percent)
+tried r = sound six (r .coords) && measured (r .limit) (r .percent)
 
 measured-accepted : (l p : ℕ) → T (measured l p) → ¬ AboveSeven l × ¬ NoPercent p
 measured-accepted l p t =
@@ -71,23 +72,23 @@ abbrev computed : Row → Judged
 computed r = answerIf (leZ (straight (r .coords)) (pos 0)) r
 
 module _ (r : Row) (t : T (tried r)) where
-  formed : ¬ WrongLength 6 (r .coords) × ¬ Outside six (r .coords)
-  formed = list-accepted six (r .coords) (T-and (listed six (r .coords)) (measured (r .limit) (r .percent)) t .0)
+  formed : ¬ WrongLength 6 (r .coords) × ¬ Outside six (r .coords) × ¬ Collapsed six (r .coords)
+  formed = list-accepted six (r .coords) (T-and (sound six (r .coords)) (measured (r .limit) (r .percent)) t .0)
 
   numbers : ¬ AboveSeven (r .limit) × ¬ NoPercent (r .percent)
-  numbers = measured-accepted (r .limit) (r .percent) (T-and (listed six (r .coords)) (measured (r .limit) (r .percent)) t .1)
+  numbers = measured-accepted (r .limit) (r .percent) (T-and (sound six (r .coords)) (measured (r .limit) (r .percent)) t .1)
 
   answers : (b : Bool) → leZ (straight (r .coords)) (pos 0) ≡ b → FloorOf 6 (r .limit) (r .coords) (r .percent) (answerIf b r)
   answers true e =
-      let (many, inside) = formed in let (h, q) = numbers in
+      let (many, inside, corners) = formed in let (h, q) = numbers in
       inl (record {
-        refused = inr ((λ f. f refl), inr (h, inr (many, inr (inside, inr (q, inl (leZ-yes (true-T e), refl))))));
+        refused = inr ((λ f. f refl), inr (h, inr (many, inr (inside, inr (corners, inr (q, inl (leZ-yes (true-T e), refl)))))));
         zeros = refl;
       })
   answers false e =
-      let (many, inside) = formed in let (h, q) = numbers in
+      let (many, inside, corners) = formed in let (h, q) = numbers in
       inr (record {
-        accepted = ((λ f. f refl), (h, (many, (inside, (q, ((λ b. T-false (leZ (straight (r .coords)) (pos 0)) e (b .le)), tt))))));
+        accepted = ((λ f. f refl), (h, (many, (inside, (corners, (q, ((λ b. T-false (leZ (straight (r .coords)) (pos 0)) e (b .le)), tt)))))));
         answer = verdict (floored (r .percent) (r .coords)) (r .limit);
         judges = verdict-is (floored (r .percent) (r .coords)) (floor-faithful (r .percent) (r .coords)) (r .limit);
         told = refl;

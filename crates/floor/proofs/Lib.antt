@@ -1,5 +1,6 @@
 -- The laws of the floor on distortion.
 pub mod Codes
+pub mod Corners
 pub mod Values
 pub mod Levels
 pub mod Still

@@ -22,7 +22,7 @@ use Rattle.algebra.proofs.Truth.{true-T, T-false}
 use Rattle.algebra.proofs.Order.{<-cases}
 use Rattle.element.specs.Kinds.{six, kindOf}
 use Rattle.element.specs.Origin.{Inside}
-use Rattle.element.specs.Refusals.{no-more, Accepted, AboveLevel, elementCodes, verdictCodes}
+use Rattle.element.specs.Refusals.{Accepted, AboveLevel, WrongLength, Outside, verdictCodes}
 use Rattle.faults.proofs.Limits.{listed-inside}
 use Rattle.floor.specs.Floor.{straight}
 use Rattle.floor.specs.Calls.{NoPercent, floorCodes}
@@ -34,8 +34,8 @@ pub percent : (p : ℕ) → ¬ (p < 1) → ¬ (99 < p) → ¬ NoPercent p
 percent p f g (inl h) = f h
 percent p f g (inr h) = g h
 
-pub small : (n : ℕ) (xs : List ℤ) → n ≡ 6 → Accepted (elementCodes n xs no-more) → Inside six xs
-small n xs e a = subst (λ m. Inside (kindOf m) xs) e (listed-inside n xs (λ f. f .0 e) a)
+pub small : (n : ℕ) (xs : List ℤ) → n ≡ 6 → ¬ WrongLength n xs → ¬ Outside (kindOf n) xs → Inside six xs
+small n xs e g h = subst (λ m. Inside (kindOf m) xs) e (listed-inside n xs (λ f. f .0 e) g h)
 
 pub record Parts (n l : ℕ) (xs : List ℤ) (p : ℕ) : Type 0 where
   pub kind : n ≡ 6
@@ -49,12 +49,12 @@ six-of n f =
 
 module _ (n l : ℕ) (xs : List ℤ) (p : ℕ) where
   pub accepted-parts : Accepted (floorCodes n l xs p) → Parts n l xs p
-  accepted-parts (k, (h, (f, (g, (q, u))))) =
+  accepted-parts (k, (h, (f, (g, (d, (q, u)))))) =
       record {
         kind = six-of n k;
         limit = N.le-of-suc-le-suc (N.lt-of-not-le h);
         share = N.le-of-suc-le-suc (N.lt-of-not-le (λ b. q (inr b)));
-        small = small n xs (six-of n k) (f, (g, tt));
+        small = small n xs (six-of n k) f g;
       }
 
   pub straight-positive : Accepted (floorCodes n l xs p) → pos 0 <ℤ straight xs
@@ -62,18 +62,18 @@ module _ (n l : ℕ) (xs : List ℤ) (p : ℕ) where
     where
       go : (pos 0 <ℤ straight xs) ⊎ (straight xs ≤ℤ pos 0) → pos 0 <ℤ straight xs
       go (inl h) = h
-      go (inr h) = absurd (a .1 .1 .1 .1 .1 .0 h)
+      go (inr h) = absurd (a .1 .1 .1 .1 .1 .1 .0 h)
 
   -- what is accepted with a floor is accepted with a lower one and without, under any limit that the floor takes
   pub accepted-lower : (m q : ℕ) → m ≤ 7 → 0 < q → q ≤ p → Accepted (floorCodes n l xs p) → Accepted (floorCodes n m xs q)
   accepted-lower m q c h i a =
-      let (k, (b, (f, (g, (r, u))))) = a in let s = accepted-parts a .share in
-      (k, (not-above c, (f, (g, (percent q (λ b. omega arith) (λ b. omega arith), u)))))
+      let (k, (b, (f, (g, (d, (r, u)))))) = a in let s = accepted-parts a .share in
+      (k, (not-above c, (f, (g, (d, (percent q (λ b. omega arith) (λ b. omega arith), u))))))
 
   pub accepted-plain : (m : ℕ) → m ≤ 10 → Accepted (floorCodes n l xs p) → Accepted (verdictCodes n m xs)
   accepted-plain m c a =
-      let (k, (b, (f, (g, u)))) = a in
-      ((λ x. k (x .0)), (below (six-of n k), (f, (g, tt))))
+      let (k, (b, (f, (g, (d, u))))) = a in
+      ((λ x. k (x .0)), (below (six-of n k), (f, (g, (d, tt)))))
     where
       below : n ≡ 6 → ¬ AboveLevel (kindOf n) m
       below e = rw e (not-above c)

@@ -1,6 +1,6 @@
 -- What the call `floor_verdict` answers (02, Ask 3).
 --   OtherKind, AboveSeven, NoPercent, NotPositive == the faults that are its own: 1, 2, 16, 17
---   floorCodes n l xs p == their order: 1, 2, 3, 4, 16, 17
+--   floorCodes n l xs p == their order: 1, 2, 3, 4, 21, 16, 17
 --   FloorOf n l xs p r  == what `floor_verdict` answers
 --   ToldBy q n l xs r   == what is answered by the profile q: what `verdict` answers, or what `floor_verdict` does
 -- n is the number given as the kind, l the level limit, xs the coordinate list, p the percentage.

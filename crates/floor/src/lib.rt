@@ -66,7 +66,7 @@ fn walk_floor(coords: &[i32], p: u8, limit: u32) -> Walk
     triangle_walk::walk_cell(c, limit, 0, limit, 0, 0, true)
 }
 
-// Code 1, 2, 3, 4, 16 or 17, or 0.
+// Code 1, 2, 3, 4, 21, 16 or 17, or 0.
 fn floor_code(kind: u8, limit: u8, coords: &[i32], p: u8) -> u8
     ensures { λ r. ⌜ Coded (floorCodes kind limit (now (coords .entry)) p) r ⌝ }
 {

@@ -7,4 +7,5 @@ pub mod Computed
 pub mod Demands
 pub mod Eases
 pub mod Twelve
+pub mod Corners
 pub mod Mean

@@ -1,6 +1,7 @@
--- The verdict, in 01's words, and the twelve elements.
+-- The verdict, in 01's words, and the elements that are proved.
 pub mod Verdict
 pub mod Faithful
 pub mod Elements
 pub mod Eases
 pub mod Twelve
+pub mod Corners

@@ -125,7 +125,7 @@ pub write-floor-list-unique : (p : ℕ) (l o : List ℕ) (o′ o″ : List ℕ) 
     → (r ≡ s) × (o′ ≡ o″)
 write-floor-list-unique p = write-unique (Floor p)
 
--- ---- a record that a floor refuses: its length and its coordinates have no fault
+-- ---- a record that a floor refuses: its length, its coordinates and its corners have no fault
 pub floor-codes : {m : ℕ} (p c : ℕ) (r : Record) → WellFormed m r
     → Refused (floorCodes (r .kind) (r .limit) (used r) p) c
     → (c ≡ 1) ⊎ (c ≡ 2) ⊎ (c ≡ 16) ⊎ (c ≡ 17)
@@ -133,6 +133,7 @@ floor-codes p c r w (inl (f, e)) = inl e
 floor-codes p c r w (inr (f, inl (g, e))) = inr (inl e)
 floor-codes p c r w (inr (f, inr (g, inl (h, e)))) = absurd (formed-accepted r w (r .limit) (w .level-allowed) .1 .1 .0 h)
 floor-codes p c r w (inr (f, inr (g, inr (h, inl (o, e))))) = absurd (w .inside o)
-floor-codes p c r w (inr (f, inr (g, inr (h, inr (o, inl (n, e)))))) = inr (inr (inl e))
-floor-codes p c r w (inr (f, inr (g, inr (h, inr (o, inr (n, inl (s, e))))))) = inr (inr (inr e))
-floor-codes p c r w (inr (f, inr (g, inr (h, inr (o, inr (n, inr (s, none))))))) = absurd none
+floor-codes p c r w (inr (f, inr (g, inr (h, inr (o, inl (d, e)))))) = absurd (w .corners-differ d)
+floor-codes p c r w (inr (f, inr (g, inr (h, inr (o, inr (d, inl (n, e))))))) = inr (inr (inl e))
+floor-codes p c r w (inr (f, inr (g, inr (h, inr (o, inr (d, inr (n, inl (s, e)))))))) = inr (inr (inr e))
+floor-codes p c r w (inr (f, inr (g, inr (h, inr (o, inr (d, inr (n, inr (s, none)))))))) = absurd none

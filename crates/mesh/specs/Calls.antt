@@ -67,7 +67,7 @@ pub record NotOpened (t b : List ℕ) (used : ℕ) (r : Meshed) (a : List ℕ) :
   pub zeros : r ≡ refusal (r .code) (r .number)
   pub untouched : a ≡ b
 
--- "then its others, element by element": 2, 4, 10, 11, 5
+-- "then its others, element by element": 2, 4, 21, 10, 11, 5
 pub record NotTaken (t : List ℕ) (level : ℕ) (b : List ℕ) (used : ℕ) (r : Meshed) (a : List ℕ) : Type 0 where
   pub accepted : Accepted (meshCodes t b used)
   pub given : List Given

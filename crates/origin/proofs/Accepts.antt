@@ -13,6 +13,8 @@ use Rattle.element.specs.Origin.{movedBy, fromFirst, Unheld}
 use Rattle.element.specs.Refusals.{Accepted, verdictCodes}
 use Rattle.element.proofs.Origin.{moved-length, first-moved}
 use Rattle.element.proofs.Ranges.{ranged-inside}
+use Rattle.element.proofs.Corners.{moved-collapsed}
+use Rattle.faults.proofs.Limits.{kind-long}
 
 module _ (a b : ℤ) (xs : List ℤ) where
   pub ranged-moved : {n : ℕ} → Each n (fromFirst xs) → Each n (fromFirst (movedBy a b xs))
@@ -22,5 +24,16 @@ module _ (a b : ℤ) (xs : List ℤ) where
       → Each (coordinateLimit (kindOf n)) (fromFirst xs)
       → ¬ Unheld (movedBy a b xs)
       → Accepted (verdictCodes n l (movedBy a b xs))
-  moved-accepted n l (f, (g, (h, _))) p u =
-      (f, (g, ((λ w. h (λ e. w (moved-length a b xs ∙ e))), (ranged-inside (coordinateLimit (kindOf n)) (movedBy a b xs) u (inr (ranged-moved p)), tt))))
+  moved-accepted n l (f, (g, (h, (_, (d, _))))) p u = (
+    f,
+    (
+      g,
+      (
+        (λ w. h (λ e. w (moved-length a b xs ∙ e))),
+        (
+          ranged-inside (coordinateLimit (kindOf n)) (movedBy a b xs) u (inr (ranged-moved p)),
+          ((λ c. d (moved-collapsed a b (kindOf n) xs (kind-long n xs f h) c)), tt),
+        ),
+      ),
+    ),
+  )

@@ -5,7 +5,7 @@
 --   wider-refused, taller-refused, across-refused, wrapped-refused : these have code 4
 -- Assumes nothing.
 use mathlib.Core.Path.{_≡_, refl, subst}
-use mathlib.Core.Bool.{Bool, true, _&&_, _||_}
+use mathlib.Core.Bool.{Bool, true, not, _&&_, _||_}
 use mathlib.Core.List.{List, [], _∷_}
 use mathlib.Core.Logic.{inl, inr}
 use Prim.Native.Nat.{ℕ, zero, suc, _+_, _*_, _-_, _≤_, zero-le}
@@ -23,8 +23,11 @@ use Rattle.forms.specs.Cuttings.{leaves, level, opens, greedy}
 use Rattle.element.specs.Kinds.{Kind, six, eight, nine, nodeCount, kindOf, coordinateLimit, greatestLevel}
 use Rattle.element.specs.Control.{at, values6, value as controlValue, controlValues}
 use Rattle.element.specs.Origin.{fromFirst, Ranged, Held}
+use Rattle.element.specs.Corners.{Collapsed}
 use Rattle.element.specs.Refusals.{Accepted, Beyond, Outside, verdictCodes}
 use Rattle.element.proofs.Ranges.{ranged-inside}
+use Rattle.element.proofs.Corners.{merged, not-merged}
+use Rattle.element.proofs.Tried.{allWithin, within-at, kind-of-nodes, is-kind}
 use Rattle.judge.specs.Verdict.{Word, is-valid, Judges}
 use Rattle.judge.specs.Elements.{subject}
 use Rattle.judge.proofs.Faithful.{element-faithful}
@@ -34,7 +37,7 @@ use Rattle.judge.proofs.Computed.{low, inRow, rowLow, firstRow, cellsOf, least-
 use Rattle.verdict.specs.Calls.{tell, given, refusal, VerdictOf, Only, Settled}
 use Rattle.verdict.specs.declared.Judged.{Judged}
 use Rattle.verdict.proofs.Judging.{refused-told}
-use Rattle.verdict.proofs.Twelve.{allWithin, within-at, kind-of-nodes, is-kind, accepted-called}
+use Rattle.verdict.proofs.Twelve.{accepted-called}
 use Rattle.origin.specs.Boxes.{box, lowest, highest, wider, taller, twice, across, wrapped, right, top, ends}
 
 -- ---- what the boxes are
@@ -112,11 +115,11 @@ beyond-of m xs i t =
 
 -- ---- a list of a kind
 module _ (l : ℕ) (k : Kind) (h : l ≤ greatestLevel k) (xs : List ℤ) (e : length xs ≡ 2 * nodeCount k) where
-  valid-list : ¬ Outside k xs → verdict (subject k xs) 0 ≡ is-valid 0 1 → Only (VerdictOf (nodeCount k) l xs) (given (is-valid 0 1))
-  valid-list f c =
+  valid-list : ¬ Outside k xs → ¬ Collapsed k xs → verdict (subject k xs) 0 ≡ is-valid 0 1 → Only (VerdictOf (nodeCount k) l xs) (given (is-valid 0 1))
+  valid-list f d c =
       let faith = element-faithful k xs in
       let at-0 : Judges (subject k xs) 0 (is-valid 0 1) = subst (Judges (subject k xs) 0) c (verdict-is (subject k xs) faith 0) in
-      let taken : Accepted (verdictCodes (nodeCount k) l xs) = rw (kind-of-nodes k) (is-kind k, ((λ g. N.not-le-of-lt g h), ((λ g. g e), (f, tt)))) in
+      let taken : Accepted (verdictCodes (nodeCount k) l xs) = rw (kind-of-nodes k) (is-kind k, ((λ g. N.not-le-of-lt g h), ((λ g. g e), (f, (d, tt))))) in
       accepted-called k l xs (is-valid 0 1) taken
       (limit-keeps (subject k xs) faith 0 l (is-valid 0 1) (λ w. subst (λ (v : Word). Settled (tell v)) w tt) zero-le at-0)
 
@@ -128,7 +131,7 @@ module _ (l : ℕ) (k : Kind) (h : l ≤ greatestLevel k) (xs : List ℤ) (e : l
 -- ---- a list for each kind
 module _ (lists : Kind → List ℤ) where
   abbrev good : Kind → Bool
-  good k = sized k (lists k) && (allHeld (lists k) && rangedBy k (lists k))
+  good k = sized k (lists k) && (allHeld (lists k) && (rangedBy k (lists k) && not (merged k (lists k))))
 
   abbrev Settles : Kind → Type 0
   Settles k = verdict (subject k (lists k)) 0 ≡ is-valid 0 1
@@ -137,9 +140,10 @@ module _ (lists : Kind → List ℤ) where
       → (l : ℕ) (k : Kind) → l ≤ greatestLevel k
       → Only (VerdictOf (nodeCount k) l (lists k)) (given (is-valid 0 1))
   valid-boxes t a b c l k h =
-      let (u, v) = T-and (sized k (lists k)) (allHeld (lists k) && rangedBy k (lists k)) (each-kind good t k) in
-      let (w, x) = T-and (allHeld (lists k)) (rangedBy k (lists k)) v in
-      valid-list l k h (lists k) (eqb→eq (length (lists k)) (2 * nodeCount k) u) (inside-of k (lists k) w x) (go k)
+      let (u, v) = T-and (sized k (lists k)) (allHeld (lists k) && (rangedBy k (lists k) && not (merged k (lists k)))) (each-kind good t k) in
+      let (w, q) = T-and (allHeld (lists k)) (rangedBy k (lists k) && not (merged k (lists k))) v in
+      let (x, y) = T-and (rangedBy k (lists k)) (not (merged k (lists k))) q in
+      valid-list l k h (lists k) (eqb→eq (length (lists k)) (2 * nodeCount k) u) (inside-of k (lists k) w x) (not-merged k (lists k) y) (go k)
     where
       go : (k : Kind) → Settles k
       go six = a

@@ -23,7 +23,7 @@ use Rattle.sheet.specs.declared.WrittenSheet.{WrittenSheet}
 use Rattle.sheet.proofs.Checker.{check-unique}
 use Rattle.sheet.proofs.Writer.{write-unique}
 use Rattle.origin.specs.Lists.{Sound}
-use Rattle.origin.proofs.Orders.{past-refused, refused-past, past-accepted, accepted-past, verdict-accepted}
+use Rattle.origin.proofs.Orders.{list-refused, list-accepted, verdict-accepted}
 use Rattle.origin.proofs.Subjects.{valid-same}
 use Rattle.origin.proofs.Values.{element-values}
 
@@ -77,12 +77,11 @@ module _ (n l : ℕ) (xs : List ℤ) (a b : ℤ) (s : Sound n xs) (t : Sound n (
     write-refused c (inl r) = inl r
     write-refused c (inr (f, inl r)) = inr (f, inl r)
     write-refused c (inr (f, inr (g, r))) =
-        let q = own-refused (kindOf n) xs ys (same f) l (length before) c (past-refused n xs (later xs) s c r) in
-        inr (f, inr (g, refused-past n ys (later ys) t c q))
+        inr (f, inr (g, list-refused n xs a b s t f (later xs) (later ys) c (own-refused (kindOf n) xs ys (same f) l (length before) c) r))
 
     write-accepted : Accepted (writeCodes n l xs (length before)) → Accepted (writeCodes n l ys (length before))
     write-accepted (f, (g, u)) =
-        (f, (g, accepted-past n ys (later ys) t (own-accepted (kindOf n) xs ys (same f) l (length before) (past-accepted n xs (later xs) s u))))
+        (f, (g, list-accepted n xs a b s t f (later xs) (later ys) (own-accepted (kindOf n) xs ys (same f) l (length before)) u))
 
     write-as : (r : WrittenSheet) (o : List ℕ) → WritesSheet n l xs before r o → WritesSheet n l ys before r o
     write-as r o (inl q) = inl (record { refused = write-refused (r .code) (q .refused); zeros = q .zeros; untouched = q .untouched })
@@ -107,7 +106,7 @@ module _ (n l : ℕ) (xs : List ℤ) (a b : ℤ) (s : Sound n xs) (t : Sound n (
     check-refused : (c : ℕ) → Refused (checkCodes n l xs m) c → Refused (checkCodes n l ys m) c
     check-refused c (inl r) = inl r
     check-refused c (inr (f, inl r)) = inr (f, inl r)
-    check-refused c (inr (f, inr (g, r))) = inr (f, inr (g, refused-past n ys (last ys) t c (go (past-refused n xs (last xs) s c r))))
+    check-refused c (inr (f, inr (g, r))) = inr (f, inr (g, list-refused n xs a b s t f (last xs) (last ys) c go r))
       where
         go : Refused (last xs) c → Refused (last ys) c
         go (inl (h, q)) = inl ((λ p. h (shown-as (kindOf n) ys xs (sym (same f)) p)), q)
@@ -117,7 +116,7 @@ module _ (n l : ℕ) (xs : List ℤ) (a b : ℤ) (s : Sound n xs) (t : Sound n (
     check-as r (inl q) = inl (record { refused = check-refused (r .code) (q .refused); zeros = q .zeros })
     check-as r (inr q) =
         inr (record {
-          accepted = verdict-accepted n l xs ys s t (q .accepted);
+          accepted = verdict-accepted n xs a b s t l (q .accepted);
           shown = shown-as (kindOf n) xs ys (same (q .accepted .0)) (q .shown);
           answer = q .answer;
         })

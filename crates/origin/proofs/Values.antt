@@ -1,6 +1,5 @@
 -- `control_values` and `solver_bounds` do not move with the origin (02, Ask 7).
---   kind-long      : a list without fault has two numbers for each node of its kind
---   element-values : its control values stay
+--   element-values : the control values of a list without 3 and 4 stay
 --   control-moved  : answer and buffer of `control_values` are the same, in every field and number, refused or not
 --   bounds-moved   : the answer of `solver_bounds` is the same, in every field
 -- n is the number given as the kind, xs the coordinate list, (a, b) the vector taken from each node. Assumes nothing.
@@ -15,20 +14,17 @@ use Rattle.element.specs.Control.{controlValues}
 use Rattle.element.specs.Origin.{movedBy}
 use Rattle.element.specs.Refusals.{Codes, no-more, code, Refused, Accepted, ShortRoom, controlCodes, boundsCodes}
 use Rattle.element.proofs.Origin.{values-moved}
-use Rattle.faults.proofs.Limits.{listed-inside}
+use Rattle.faults.proofs.Limits.{kind-long}
 use Rattle.control.specs.Calls.{controlled, ControlValues, codeOf, SolverBounds, BoundsOf, boundsOf}
 use Rattle.control.specs.declared.Controlled.{Controlled}
 use Rattle.control.specs.declared.Bounded.{Bounded}
 use Rattle.control.proofs.Outcomes.{control-values-unique, solver-bounds-unique}
 use Rattle.origin.specs.Lists.{Sound}
-use Rattle.origin.proofs.Orders.{past-refused, refused-past, past-accepted, accepted-past}
+use Rattle.origin.proofs.Orders.{list-refused, list-accepted}
 
 module _ (n : ℕ) (xs : List ℤ) (a b : ℤ) (s : Sound n xs) where
-  pub kind-long : ¬ NotKind n → length xs ≡ 2 * nodeCount (kindOf n)
-  kind-long f = listed-inside n xs f s .long
-
   pub element-values : ¬ NotKind n → controlValues (kindOf n) (movedBy a b xs) ≡ controlValues (kindOf n) xs
-  element-values f = values-moved a b xs (kindOf n) (kind-long f)
+  element-values f = values-moved a b xs (kindOf n) (kind-long n xs f (s .0))
 
   module _ (t : Sound n (movedBy a b xs)) where
     abbrev ys : List ℤ
@@ -39,7 +35,7 @@ module _ (n : ℕ) (xs : List ℤ) (a b : ℤ) (s : Sound n xs) where
 
     control-refused : (room c : ℕ) → Refused (controlCodes n xs room) c → Refused (controlCodes n ys room) c
     control-refused room c (inl r) = inl r
-    control-refused room c (inr (f, r)) = inr (f, refused-past n ys (short room) t c (past-refused n xs (short room) s c r))
+    control-refused room c (inr (f, r)) = inr (f, list-refused n xs a b s t f (short room) (short room) c (λ q. q) r)
 
     control-as : (before : List ℤ) (r : Controlled) (o : List ℤ) → ControlValues n xs before r o → ControlValues n ys before r o
     control-as before r o (inl q) =
@@ -47,7 +43,7 @@ module _ (n : ℕ) (xs : List ℤ) (a b : ℤ) (s : Sound n xs) where
     control-as before r o (inr q) =
         let (f, u) = q .accepted in
         inr (record {
-          accepted = (f, accepted-past n ys (short (length before)) t (past-accepted n xs (short (length before)) s u));
+          accepted = (f, list-accepted n xs a b s t f (short (length before)) (short (length before)) (λ q. q) u);
           answer = q .answer;
           filled = q .filled ∙ ap (λ (c : List ℤ). c ++ drop (valueCount (kindOf n)) before) (sym (element-values f));
         })
@@ -59,14 +55,14 @@ module _ (n : ℕ) (xs : List ℤ) (a b : ℤ) (s : Sound n xs) where
 
     bounds-refused : (c : ℕ) → Refused (boundsCodes n xs) c → Refused (boundsCodes n ys) c
     bounds-refused c (inl r) = inl r
-    bounds-refused c (inr (f, r)) = absurd (past-refused n xs no-more s c r)
+    bounds-refused c (inr (f, r)) = inr (f, list-refused n xs a b s t f no-more no-more c (λ q. q) r)
 
     bounds-as : (r : Bounded) → SolverBounds n xs r → SolverBounds n ys r
     bounds-as r (inl q) =
         inl (record { refused = bounds-refused (codeOf r) (q .refused); no-number = q .no-number; no-lo = q .no-lo; no-hi = q .no-hi })
     bounds-as r (inr q) =
         inr (record {
-          accepted = (q .accepted .0, t);
+          accepted = (q .accepted .0, list-accepted n xs a b s t (q .accepted .0) no-more no-more (λ u. u) (q .accepted .1));
           told = q .told;
           no-code = q .no-code;
           no-number = q .no-number;

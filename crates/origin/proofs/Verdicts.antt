@@ -25,21 +25,22 @@ use Rattle.floor.specs.Calls.{NoPercent, NotPositive, floorCodes, FloorOf}
 use Rattle.floor.proofs.Still.{straight-moved, shifted-moved}
 use Rattle.floor.proofs.Parts.{six-of, small}
 use Rattle.floor.proofs.Outcomes.{floor-unique}
+use Rattle.faults.proofs.Limits.{kind-long}
 use Rattle.origin.specs.Lists.{Sound}
-use Rattle.origin.proofs.Orders.{past-refused, refused-past, past-accepted, accepted-past, verdict-refused, verdict-accepted}
+use Rattle.origin.proofs.Orders.{list-refused, list-accepted, verdict-refused, verdict-accepted}
 use Rattle.origin.proofs.Subjects.{told-same}
-use Rattle.origin.proofs.Values.{kind-long, element-values}
+use Rattle.origin.proofs.Values.{element-values}
 
 module _ (n l : ℕ) (xs : List ℤ) (a b : ℤ) (s : Sound n xs) (t : Sound n (movedBy a b xs)) where
   abbrev ys : List ℤ
   ys = movedBy a b xs
 
   verdict-as : (r : Judged) → VerdictOf n l xs r → VerdictOf n l ys r
-  verdict-as r (inl q) = inl (record { refused = verdict-refused n l xs ys s t (r .code) (q .refused); zeros = q .zeros })
+  verdict-as r (inl q) = inl (record { refused = verdict-refused n xs a b s t l (r .code) (q .refused); zeros = q .zeros })
   verdict-as r (inr q) =
       let k = kindOf n in let f = q .accepted .0 in
       inr (told-same k (jacobian k xs) (jacobian k ys) (controlValues k xs) (controlValues k ys) (verdictCodes n l xs) (verdictCodes n l ys) l r
-      (λ x. sym (jacobian-moved a b xs k (kind-long n xs a b s f) x)) (sym (element-values n xs a b s f)) (verdict-accepted n l xs ys s t (q .accepted)) q)
+      (λ x. sym (jacobian-moved a b xs k (kind-long n xs f (s .0)) x)) (sym (element-values n xs a b s f)) (verdict-accepted n xs a b s t l (q .accepted)) q)
 
   pub verdict-moved : (r r' : Judged) → VerdictOf n l xs r → VerdictOf n l (movedBy a b xs) r' → r ≡ r'
   verdict-moved r r' q w = verdict-unique n l ys r r' (verdict-as r q) w
@@ -59,7 +60,7 @@ module _ (n l : ℕ) (xs : List ℤ) (p : ℕ) (a b : ℤ) (s : Sound n xs) (t :
 
   module _ (e : n ≡ 6) where
     long-six : length xs ≡ 12
-    long-six = small n xs e s .long
+    long-six = small n xs e (s .0) (s .1) .long
 
     own-refused : (c : ℕ) → Refused (own xs) c → Refused (own zs) c
     own-refused c (inl r) = inl r
@@ -73,10 +74,12 @@ module _ (n l : ℕ) (xs : List ℤ) (p : ℕ) (a b : ℤ) (s : Sound n xs) (t :
   floor-refused c (inl r) = inl r
   floor-refused c (inr (f, inl r)) = inr (f, inl r)
   floor-refused c (inr (f, inr (g, r))) =
-      inr (f, inr (g, refused-past n zs (own zs) t c (own-refused (six-of n f) c (past-refused n xs (own xs) s c r))))
+      let e = six-of n f in
+      inr (f, inr (g, list-refused n xs a b s t (λ k. k .0 e) (own xs) (own zs) c (own-refused e c) r))
 
   floor-accepted : Accepted (floorCodes n l xs p) → Accepted (floorCodes n l zs p)
-  floor-accepted (f, (g, u)) = (f, (g, accepted-past n zs (own zs) t (own-accepted (six-of n f) (past-accepted n xs (own xs) s u))))
+  floor-accepted (f, (g, u)) =
+      let e = six-of n f in (f, (g, list-accepted n xs a b s t (λ k. k .0 e) (own xs) (own zs) (own-accepted e) u))
 
   floor-as : (r : Judged) → FloorOf n l xs p r → FloorOf n l zs p r
   floor-as r (inl q) = inl (record { refused = floor-refused (r .code) (q .refused); zeros = q .zeros })

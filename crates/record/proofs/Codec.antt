@@ -33,6 +33,7 @@ use Rattle.endian.proofs.Places.{length-part, bytes-part}
 use Rattle.record.specs.declared.Record.{Record}
 use Rattle.record.specs.Record.{used, unused, WellFormed, numbersBytes, recordBytes, readCoords, readRecord}
 use Rattle.record.specs.Faults.{recordCodes}
+use Rattle.record.proofs.Order.{passed-inside, passed-apart}
 use Rattle.record.proofs.Known.{each-zero}
 
 -- ---- parts
@@ -175,7 +176,8 @@ module _ (v : ℕ) (l : List ℕ) (at low : ℕ) where
         kind-known = a .0;
         level-allowed = λ b. a .1 .0 (inl b);
         nine-pairs = length-listTo 18 (λ k. signedNumber (part (at + 8 + 4 * k) 4 l));
-        inside = a .1 .1 .1 .0;
+        inside = passed-inside v l at low a;
+        corners-differ = passed-apart v l at low a;
         rest-zero = each-zero {l = unused (readRecord l at)} (inside-each (λ b. a .1 .1 .0 (inr b)));
         sign-level = λ b. a .1 .0 (inr b);
         sign-known = λ b. a .1 .1 .0 (inl b);
@@ -189,4 +191,4 @@ module _ (v : ℕ) (l : List ℕ) (at low : ℕ) where
 
       fits : WellFormed v (readRecord l at) → low ≤ readRecord l at .id → Accepted (recordCodes v l at low)
       fits w h =
-          (w .kind-known, (⊎-elim (w .level-allowed) (w .sign-level), (⊎-elim (w .sign-known) (zeros w), (w .inside, ((λ f. N.not-le-of-lt f h), tt)))))
+          (w .kind-known, (⊎-elim (w .level-allowed) (w .sign-level), (⊎-elim (w .sign-known) (zeros w), (w .inside, (w .corners-differ, ((λ f. N.not-le-of-lt f h), tt))))))

@@ -36,6 +36,7 @@ formed-unsigned v w r e f =
       level-allowed = f .level-allowed;
       nine-pairs = f .nine-pairs;
       inside = f .inside;
+      corners-differ = f .corners-differ;
       rest-zero = f .rest-zero;
       sign-level = λ h. h .0 .0 e;
       sign-known = wrong;

@@ -1,4 +1,5 @@
--- The faults of a stored record, and their order (01, "Codes and what they leave": "record by record 1, 2, 9, 4, 10"; 02, Ask 4: "2 also
+-- The faults of a stored record, and their order (01, "Codes and what they leave": "record by record 1, 2, 9, 4, 10"; 02, Ask 9: "21, directly
+-- after 4 wherever 4 stands"; 02, Ask 4: "2 also
 -- for a signed record's second byte above the kind's greatest level; 9 for a first byte above 2, an unsigned record's non-zero second
 -- byte, and unused pairs").
 --   TooHigh v r   == code 2: the level limit, or a signed record's level, is above the kind's greatest
@@ -6,13 +7,13 @@
 --   TooLow low id == code 10, where low is the least id that may follow the one before
 --   signCodes v k s d == the order of the two bytes alone
 --   recordCodes v l at low == the order
--- Codes 1, 2 and 4 are those of an element, of the kind, the level limit and the used coordinates that are read.
+-- Codes 1, 2, 4 and 21 are those of an element, of the kind, the level limit and the used coordinates that are read.
 -- Definitions only.
 use mathlib.Core.List.{List}
 use mathlib.Core.Logic.{_⊎_}
 use Prim.Native.Nat.{ℕ, _<_}
 use Rattle.element.specs.Kinds.{Kind, NotKind, kindOf}
-use Rattle.element.specs.Refusals.{Codes, no-more, code, AboveLevel, Beyond, Outside}
+use Rattle.element.specs.Refusals.{Codes, no-more, code, AboveLevel, Beyond, nodeCodes}
 use Rattle.record.specs.declared.Record.{Record}
 use Rattle.record.specs.Record.{used, unused, HighSign, WrongSign, readRecord}
 
@@ -37,6 +38,6 @@ recordCodes v l at low =
     code 1 (NotKind (r .kind))
     (code 2 (TooHigh v r)
     (code 9 (NotZero v r)
-    (code 4 (Outside (kindOf (r .kind)) (used r))
+    (nodeCodes (kindOf (r .kind)) (used r)
     (code 10 (TooLow low (r .id))
     no-more))))

@@ -23,6 +23,7 @@ use lib.IntN.{ℤ, pos}
 use lib.ListN.{length, getD, take, drop, replicate}
 use Rattle.algebra.specs.Fill.{listTo}
 use Rattle.element.specs.Kinds.{Kind, NotKind, kindOf}
+use Rattle.element.specs.Corners.{Collapsed}
 use Rattle.element.specs.Refusals.{AboveLevel, Outside}
 use Rattle.endian.specs.Numbers.{bytes, number, signedBytes, signedNumber, part}
 use Rattle.record.specs.declared.Record.{Record}
@@ -53,6 +54,7 @@ pub record WellFormed (v : ℕ) (r : Record) : Type 0 where
   pub level-allowed : ¬ AboveLevel (kindOf (r .kind)) (r .limit)
   pub nine-pairs : length (r .coords) ≡ 18
   pub inside : ¬ Outside (kindOf (r .kind)) (used r)
+  pub corners-differ : ¬ Collapsed (kindOf (r .kind)) (used r)
   pub rest-zero : (k : ℕ) → getD (unused r) k (pos 0) ≡ pos 0
   pub sign-level : ¬ HighSign v (kindOf (r .kind)) (r .signed) (r .level)
   pub sign-known : ¬ WrongSign v (r .signed) (r .level)

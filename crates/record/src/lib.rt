@@ -2,16 +2,16 @@
 use endian::get_i32;
 use endian::get_u32;
 use faults::greatest_level;
-use faults::inside;
 use faults::known;
+use faults::node_code;
 use points::within;
 ghost use mathlib.Core.Path.{_≡_};
 ghost use mathlib.Core.Bool.{true, false};
 ghost use Prim.Native.Nat.{_+_, _*_, _≤_};
 ghost use lib.ListN.{length, take, drop};
 ghost use Rattle.algebra.specs.Within.{Each};
-ghost use Rattle.element.specs.Kinds.{kindOf};
-ghost use Rattle.element.specs.Refusals.{Beyond, Outside, Coded};
+ghost use Rattle.element.specs.Kinds.{NotKind, kindOf};
+ghost use Rattle.element.specs.Refusals.{Beyond, no-more, Coded, nodeCodes};
 ghost use Rattle.record.specs.Record.{mostSign, readCoords, readRecord};
 ghost use Rattle.record.specs.Faults.{signCodes, recordCodes};
 
@@ -79,17 +79,16 @@ fn unused_zero(coords: [i32; 18], kind: u8) -> bool
     within(&coords[n..], 0)
 }
 
-// Whether the coordinates of the kind's nodes are all within its limit.
-fn used_inside(coords: [i32; 18], kind: u8) -> bool
-    requires { ⌜ kind ≤ 9 ⌝ }
-    ensures yes { λ r. ⌜ (r ≡ true → ¬ Outside (kindOf kind) (take (2 * kind) coords)) ⌝ }
-    ensures no { λ r. ⌜ (r ≡ false → Outside (kindOf kind) (take (2 * kind) coords)) ⌝ }
+// The code of the kind's nodes: 4 or 21, or 0.
+fn used_code(coords: [i32; 18], kind: u8) -> u8
+    requires { ⌜ ¬ NotKind kind ⌝ }
+    ensures { λ c. ⌜ Coded (nodeCodes (kindOf kind) (take (2 * kind) coords) no-more) c ⌝ }
 {
     if kind == 6 {
-        return inside(kind, &coords[..12]);
+        return node_code(6, &coords[..12]);
     }
     let n = 2 * (kind as usize);
-    inside(kind, &coords[..n])
+    node_code(kind, &coords[..n])
 }
 
 // The greatest first byte of a record in a block of this version.
@@ -121,7 +120,7 @@ fn sign_code(version: u32, kind: u8, signed: u8, level: u8) -> u8
     0
 }
 
-// The code of the record at a place in a block of this version: 1, 2, 9, 4, 10, or 0; low is the least id that may stand there.
+// The code of the record at a place in a block of this version: 1, 2, 9, 4, 21, 10, or 0; low is the least id that may stand there.
 pub fn fault(s: &[u8], at: usize, version: u32, low: u64) -> u8
     requires { ⌜ at + 80 ≤ length (now s) ⌝ }
     ensures { λ c. ⌜ Coded (recordCodes version (now (s .entry)) at low) c ⌝ }
@@ -142,8 +141,9 @@ pub fn fault(s: &[u8], at: usize, version: u32, low: u64) -> u8
     if !unused_zero(coords, kind) {
         return 9;
     }
-    if !used_inside(coords, kind) {
-        return 4;
+    let d = used_code(coords, kind);
+    if d != 0 {
+        return d;
     }
     if (r.id as u64) < low {
         return 10;

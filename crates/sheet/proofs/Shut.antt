@@ -17,10 +17,10 @@ use Rattle.element.specs.Kinds.{kindOf}
 use Rattle.element.specs.Kinds as K
 use Rattle.element.specs.Control.{values6, controlValues}
 use Rattle.element.specs.Refusals.{Accepted, verdictCodes}
+use Rattle.element.proofs.Tried.{accepted-kind}
 use Rattle.judge.specs.Verdict.{Passing}
 use Rattle.judge.specs.Elements.{subject}
 use Rattle.judge.specs.Twelve.{F, G}
-use Rattle.verdict.proofs.Twelve.{accepted-kind}
 use Rattle.cuttings.specs.Bytes.{cuttingBytes, sheetBytes}
 use Rattle.cuttings.proofs.Bytes.{bytes-unique, sheet-unique, tail-is}
 use Rattle.sheet.specs.Calls.{Shown, checked, ChecksSheet, written, WritesSheet}

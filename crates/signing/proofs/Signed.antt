@@ -68,6 +68,7 @@ module _ (r : Record) (w : WellFormed 2 r) (a : Answer) (j : Judges (element r) 
         level-allowed = w .level-allowed;
         nine-pairs = w .nine-pairs;
         inside = w .inside;
+        corners-differ = w .corners-differ;
         rest-zero = w .rest-zero;
         sign-level = λ h. allowed (h .1);
         sign-known = known;

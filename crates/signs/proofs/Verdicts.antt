@@ -50,7 +50,7 @@ pub formed-accepted : {v : ℕ} (r : Record) → WellFormed v r
 formed-accepted r w n h =
     let k = known-small (r .kind) (w .kind-known) in
     let e = w .nine-pairs in
-    (w .kind-known, (h, ((λ f. f (length-take-le (2 * r .kind) (r .coords) (omega arith))), (w .inside, tt))))
+    (w .kind-known, (h, ((λ f. f (length-take-le (2 * r .kind) (r .coords) (omega arith))), (w .inside, (w .corners-differ, tt)))))
 
 pub formed-level : {v : ℕ} (r : Record) → WellFormed v r → ¬ (r .signed ≡ 0) → Accepted (verdictCodes (r .kind) (r .level) (used r))
 formed-level {v} r w s =

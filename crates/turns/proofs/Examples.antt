@@ -23,6 +23,7 @@ use Rattle.element.specs.Kinds.{Kind, six, eight, nine, nodeCount}
 use Rattle.element.specs.Plane.{Vec}
 use Rattle.element.specs.Nodes.{A0, A1, A2, M01, M12, M02, A8}
 use Rattle.element.specs.Control.{values6, value as controlValue, controlValues}
+use Rattle.element.proofs.Tried.{list-accepted, accepts}
 use Rattle.judge.specs.Verdict.{Answer, is-valid, Judges}
 use Rattle.judge.specs.Elements.{subject}
 use Rattle.judge.specs.Twelve.{n, F, G, grid9}
@@ -31,7 +32,7 @@ use Rattle.judge.proofs.Search.{least}
 use Rattle.judge.proofs.Computed.{low, inRow, rowLow, firstRow, cellsOf, least-count, inRowTold, from, verdict, verdict-is}
 use Rattle.verdict.specs.Calls.{given, refusal, VerdictOf, Only}
 use Rattle.verdict.specs.declared.Judged.{Judged}
-use Rattle.verdict.proofs.Twelve.{list-accepted, accepts, element-called}
+use Rattle.verdict.proofs.Twelve.{element-called}
 use Rattle.floor.specs.Floor.{straight}
 use Rattle.floor.specs.Calls.{NoPercent, FloorOf}
 use Rattle.floor.specs.Examples as floor
@@ -131,4 +132,4 @@ crossed-straight = refl
 
 pub crossed-floor : (l p : ℕ) (r : Judged) → ¬ (7 < l) → ¬ NoPercent p → FloorOf 6 l crossed p r → r ≡ refusal 17
 crossed-floor l p r a d v =
-    straight-last l crossed p r v a refl (list-accepted six crossed tt .1) d (subst (λ z. z ≤ℤ pos 0) (sym crossed-straight) (leZ-yes tt))
+    straight-last l crossed p r v a refl (list-accepted six crossed tt .1) (list-accepted six crossed tt .2) d (subst (λ z. z ≤ℤ pos 0) (sym crossed-straight) (leZ-yes tt))

@@ -11,9 +11,9 @@ use mathlib.Core.List.{List}
 use Prim.Native.Nat.{ℕ, zero, suc, _≤_, _<_, zero-le}
 use native.Mathlib.Nat as N
 use lib.IntN.{ℤ, pos, negℤ, _-ℤ_, _*ℤ_, negℤ-negℤ, *ℤ-comm, +ℤ-idl, zero-*ℤ}
-use lib.Signed.{_<ℤ_}
+use lib.Signed.{_<ℤ_, clashℤ}
 use Rattle.algebra.specs.Expr.{exprs, con, _⊖_}
-use Rattle.algebra.proofs.Order.{0<pos, <-≤, sub-0<, *ℤ-mono-<, *ℤ-cancel-<}
+use Rattle.algebra.proofs.Order.{0<pos, <-≤, ≤-of-eq, sub-0<, *ℤ-mono-<, *ℤ-cancel-<}
 use Rattle.algebra.proofs.Solve.{solve}
 use Rattle.element.specs.Kinds.{Kind, six, eight, nine, kindOf, scale}
 use Rattle.element.specs.Places.{Place, OnGrid}
@@ -36,6 +36,7 @@ use Rattle.verdict.proofs.Judging.{accepted-answered, by-word}
 use Rattle.floor.specs.Floor.{straight}
 use Rattle.floor.specs.Calls.{NoPercent, FloorOf}
 use Rattle.floor.proofs.Codes.{straight-last}
+use Rattle.floor.proofs.Corners.{collapsed-straight}
 use Rattle.turns.specs.Numbering.{turnedBy, mirrored}
 use Rattle.turns.specs.Kept.{Overturned}
 use Rattle.turns.proofs.Jacobian.{turned-from, mirrored-from, jacobian-turned, jacobian-mirrored}
@@ -143,5 +144,7 @@ pub mirrored-floor : (m l : ℕ) (xs : List ℤ) (p : ℕ) (r : Judged) → pos 
     → FloorOf 6 l (mirrored six (turnedBy m six xs)) p r
     → r ≡ refusal 17
 mirrored-floor m l xs p r h a c d v =
-    straight-last l (mirrored six (turnedBy m six xs)) p r v a refl c d
-    (<-≤ (subst (λ z. z <ℤ pos 0) (sym (straight-mirrored (turnedBy m six xs) ∙ ap negℤ (straight-many m xs))) (negative (straight xs) h)))
+    let below : straight (mirrored six (turnedBy m six xs)) <ℤ pos 0 =
+    subst (λ z. z <ℤ pos 0) (sym (straight-mirrored (turnedBy m six xs) ∙ ap negℤ (straight-many m xs))) (negative (straight xs) h) in
+    straight-last l (mirrored six (turnedBy m six xs)) p r v a refl c
+    (λ e. clashℤ below (≤-of-eq (sym (collapsed-straight (mirrored six (turnedBy m six xs)) e)))) d (<-≤ below)

@@ -3,4 +3,5 @@ pub mod Judging
 pub mod Answers
 pub mod Outcomes
 pub mod Twelve
+pub mod Corners
 pub mod Shut

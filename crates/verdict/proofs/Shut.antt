@@ -53,7 +53,8 @@ module _ (n l : ℕ) (xs : List ℤ) (r : Judged) where
       go (inr (f, inl (g, q))) = N.not-le-of-lt g h
       go (inr (f, inr (g, inl (w, q)))) = other q (λ z. omega arith)
       go (inr (f, inr (g, inr (w, inl (o, q))))) = other q (λ z. omega arith)
-      go (inr (f, inr (g, inr (w, inr (o, none))))) = none
+      go (inr (f, inr (g, inr (w, inr (o, inl (d, q)))))) = other q (λ z. omega arith)
+      go (inr (f, inr (g, inr (w, inr (o, inr (d, none)))))) = none
   limit-within h (inr p) e = let z : _≡_ {A = ℕ} 0 2 = sym (ap (λ (q : Judged). q .code) (p .told)) ∙ e in omega arith
 
   pub refusal-zeros : ¬ (r .code ≡ 0) → VerdictOf n l xs r → r ≡ refusal (r .code)

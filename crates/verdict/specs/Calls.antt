@@ -71,7 +71,7 @@ pub record HasVerdict (o : Codes ℕ) (s : Subject) (l : ℕ) (r : Judged) : Typ
 abbrev pub Told : Codes ℕ → Subject → ℕ → Judged → Type 0
 Told o s l r = NoVerdict o r ⊎ HasVerdict o s l r
 
--- "Verdict: 1, 2, 3, 4", and the element itself, by its nodes
+-- "Verdict: 1, 2, 3, 4", with 21 after 4 (02, Ask 9), and the element itself, by its nodes
 abbrev pub VerdictOf : ℕ → ℕ → List ℤ → Judged → Type 0
 VerdictOf n l xs r = Told (verdictCodes n l xs) (subject (kindOf n) xs) l r
 

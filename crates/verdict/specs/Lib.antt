@@ -1,3 +1,4 @@
 -- The call `verdict`.
 pub mod Calls
 pub mod Twelve
+pub mod Corners

@@ -15,7 +15,7 @@ returns c = coded-here (c .before .known .ensures .1 (not-true (c .before .known
 
 -- src/lib.rt:52:5
 list-code-requires : tie.Need-list-code-requires
-list-code-requires c κs = search needs
+list-code-requires c κs = let k = c .before in k .known .ensures .0 (not-false (k .known .result) (c .if1 .left))
 
 -- src/lib.rt:46:1
 returns-2 : tie.Need-returns-2

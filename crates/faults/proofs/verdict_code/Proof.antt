@@ -22,7 +22,7 @@ returns-2 c =
     (coded-here (rw (c .before .greatest-level .ensures) at (c .if2 .taken)))
 
 list-code-requires : tie.Need-list-code-requires
-list-code-requires c κs = search needs
+list-code-requires c κs = let e1 = c .before .before in let k = e1 .before in k .known .ensures .0 (not-false (k .known .result) (e1 .if1 .left))
 
 returns-3 : tie.Need-returns-3
 returns-3 c =

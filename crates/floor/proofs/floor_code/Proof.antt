@@ -16,7 +16,7 @@ returns-2 : tie.Need-returns-2
 returns-2 c = coded-past (λ f. f (c .before .if1 .left)) (coded-here (c .if2 .taken))
 
 list-code-requires : tie.Need-list-code-requires
-list-code-requires c κs = search needs
+list-code-requires c κs = λ f. f .0 (c .before .if1 .left)
 
 returns-3 : tie.Need-returns-3
 returns-3 c =
@@ -41,7 +41,8 @@ returns-5 c =
 straight-requires : tie.Need-straight-requires
 straight-requires c κs =
     let e3 = c .before .before in let coded = e3 .before in let e1 = coded .before .before in let a = e1 .before .args in
-    small (a .kind) (a .coords .now) (e1 .if1 .left) (coded-none (coded .list-code .ensures) tt (e3 .if3 .left))
+    let none = coded-none (coded .list-code .ensures) tt (e3 .if3 .left) in
+    small (a .kind) (a .coords .now) (e1 .if1 .left) (none .0) (none .1 .0)
 
 returns-6 : tie.Need-returns-6
 returns-6 c =

@@ -5,8 +5,8 @@ use borrow.Author.Tests.{not-true, not-false}
 use Prim.Native.Nat.{ℕ, _≤_, _<_}
 use native.Mathlib.Nat as N
 use Rattle.element.specs.Kinds.{NotKind, kindOf}
-use Rattle.element.specs.Refusals.{AboveLevel, Outside, Accepted}
-use Rattle.element.proofs.Refusals.{coded-some, coded-none, coded-here, coded-past, coded-end}
+use Rattle.element.specs.Refusals.{no-more, AboveLevel, Accepted, nodeCodes}
+use Rattle.element.proofs.Refusals.{coded-some, coded-none, coded-here, coded-past, coded-end, coded-first, coded-then}
 use Rattle.element.proofs.Ranges.{each-inside}
 use Rattle.record.specs.declared.Record.{Record}
 use Rattle.record.specs.Record.{used, readRecord}
@@ -59,10 +59,11 @@ zeros c =
     ⊎-elim (signs e .1 .0)
     (each-inside (rw (r .read-record .ensures) at (c .before .unused-zero .ensures .0 (not-false (c .before .unused-zero .result) (c .if4 .left)))))
 
-inside : (c : tie.Else5) → let r = stored (read (level (c .before .before .before .before))) in ¬ Outside (kindOf (r .kind)) (used r)
-inside c =
+-- the kind's nodes, once their code is none
+nodes : (c : tie.Else5) → let r = stored (read (level (c .before .before .before .before))) in Accepted (nodeCodes (kindOf (r .kind)) (used r) no-more)
+nodes c =
     let r = read (level (c .before .before .before .before)) .before in
-    rw (r .read-record .ensures) at (c .before .used-inside .ensures .0 (not-false (c .before .used-inside .result) (c .if5 .left)))
+    rw (r .read-record .ensures) at (coded-none (c .before .used-code .ensures) tt (c .if5 .left))
 
 read-record-requires : tie.Need-read-record-requires
 read-record-requires c κs = search needs
@@ -106,17 +107,20 @@ returns-4 c =
     coded-past (kind-known (e2 .before .before .before)) (coded-past (not-high e3)
     (coded-here (inr (rw (r .read-record .ensures) at (c .before .unused-zero .ensures .1 (not-true (c .before .unused-zero .result) (c .if4 .taken)))))))
 
-used-inside-requires : tie.Need-used-inside-requires
-used-inside-requires c κs = small (level (c .before .before))
+used-code-requires : tie.Need-used-code-requires
+used-code-requires c κs =
+    let e2 = level (c .before .before) in
+    rw (read e2 .before .read-record .ensures) (kind-known (e2 .before .before .before))
 
 returns-5 : tie.Need-returns-5
 returns-5 c =
     let e4 = c .before .before in
     let e3 = e4 .before .before in
     let e2 = level e3 in
-    let r = read e2 .before in
+    let r = stored (read e2) in
     coded-past (kind-known (e2 .before .before .before)) (coded-past (not-high e3) (coded-past (zeros e4)
-    (coded-here (rw (r .read-record .ensures) at (c .before .used-inside .ensures .1 (not-true (c .before .used-inside .result) (c .if5 .taken)))))))
+    (coded-first (nodeCodes (kindOf (r .kind)) (used r) no-more) _ _
+    (rw (read e2 .before .read-record .ensures) at (c .before .used-code .ensures)) (c .if5 .taken))))
 
 cast-if6 : tie.Need-cast-if6
 cast-if6 c = search needs
@@ -127,9 +131,10 @@ returns-6 c =
     let e4 = e5 .before .before in
     let e3 = e4 .before .before in
     let e2 = level e3 in
-    let r = read e2 .before in
-    coded-past (kind-known (e2 .before .before .before)) (coded-past (not-high e3) (coded-past (zeros e4) (coded-past (inside e5)
-    (coded-here (rw (r .read-record .ensures) at (c .if6 .taken))))))
+    let r = stored (read e2) in
+    coded-past (kind-known (e2 .before .before .before)) (coded-past (not-high e3) (coded-past (zeros e4)
+    (coded-then (nodeCodes (kindOf (r .kind)) (used r) no-more) _ _ (nodes e5)
+    (coded-here (rw (read e2 .before .read-record .ensures) at (c .if6 .taken))))))
 
 returns-7 : tie.Need-returns-7
 returns-7 c =
@@ -137,9 +142,10 @@ returns-7 c =
     let e4 = e5 .before .before in
     let e3 = e4 .before .before in
     let e2 = level e3 in
-    let r = read e2 .before in
-    coded-past (kind-known (e2 .before .before .before)) (coded-past (not-high e3) (coded-past (zeros e4) (coded-past (inside e5)
-    (coded-past (not-above (rw (r .read-record .ensures) at (c .if6 .left))) coded-end))))
+    let r = stored (read e2) in
+    coded-past (kind-known (e2 .before .before .before)) (coded-past (not-high e3) (coded-past (zeros e4)
+    (coded-then (nodeCodes (kindOf (r .kind)) (used r) no-more) _ _ (nodes e5)
+    (coded-past (not-above (rw (read e2 .before .read-record .ensures) at (c .if6 .left))) coded-end))))
 
 pub fault-spec : {M : Type 1} → statement M
 fault-spec =
@@ -154,7 +160,7 @@ fault-spec =
     returns-3
     unused-zero-requires
     returns-4
-    used-inside-requires
+    used-code-requires
     returns-5
     cast-if6
     returns-6
