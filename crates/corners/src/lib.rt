@@ -3,13 +3,14 @@
 ghost use mathlib.Core.Path.{_≡_};
 ghost use Rattle.corners.specs.First as first;
 
-// A bad grid point of a level and the scaled J there, or none. The four small fields fill two words, so that a copy moves three.
+// A bad grid point of a level and the scaled J there, or none. The value stands first and the flag last, so that a copy of the unused bytes
+// behind the flag crosses no other field.
 pub struct First {
+    pub value: i64,
     pub level: u32,
     pub i: u32,
     pub j: u32,
     pub bad: bool,
-    pub value: i64,
 }
 
 // No bad point.
