@@ -1,7 +1,7 @@
 // What the program `calls` answers to its lines.
 
 use crate::block::{append, block_bytes, check, hex, list, stored, Record, Stored};
-use crate::element::{code, Element};
+use crate::element::{judged_code, Element};
 use crate::floor::floor_verdict;
 use crate::mesh::append_mesh;
 use crate::pack::append_text;
@@ -30,14 +30,14 @@ fn verdict_answer(told: Result<Verdict, u8>) -> String {
 }
 
 fn verdict_of(e: &Element) -> Result<Verdict, u8> {
-    match code(e, true) {
+    match judged_code(e, true) {
         0 => Ok(e.verdict()),
         c => Err(c),
     }
 }
 
 fn control_answer(room: usize, e: &Element) -> String {
-    match code(e, false) {
+    match judged_code(e, false) {
         0 => {
             let v = e.control_values();
             if room < v.len() { "5 0".to_string() } else { format!("0 {}{}", v.len(), words(&v)) }
@@ -47,7 +47,7 @@ fn control_answer(room: usize, e: &Element) -> String {
 }
 
 fn bounds_answer(e: &Element) -> String {
-    match code(e, false) {
+    match judged_code(e, false) {
         0 => {
             let v = e.control_values();
             format!("0 {} {}", v.iter().min().unwrap(), v.iter().max().unwrap())

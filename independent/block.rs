@@ -1,7 +1,7 @@
 // Element blocks of both versions, straight from the rules: their own writer, the check record by record and then of what is signed, and
 // the list.
 
-use crate::element::{accepted, code, collapsed, greatest_level, Element};
+use crate::element::{accepted, code, collapsed, greatest_level, Element, RECORD_KINDS};
 use crate::verdict::{Judged, Verdict};
 
 pub struct Record {
@@ -88,7 +88,7 @@ impl Stored {
     // The record's code in a block of that version, where the id before is `last`: 1, then 2, 9, 4, 21, 10. What is signed is not yet
     // judged.
     fn code(&self, version: u16, last: i64) -> u8 {
-        if self.kind != 6 && self.kind != 8 && self.kind != 9 {
+        if !RECORD_KINDS.contains(&self.kind) {
             return 1;
         }
         let greatest = greatest_level(self.kind);
@@ -173,7 +173,7 @@ pub fn check_used(b: &[u8], used: u64) -> Result<usize, (u8, usize)> {
 pub fn append(b: &mut [u8], used: u64, r: &Record) -> Result<u64, (u8, usize)> {
     let count = check_used(b, used)?;
     let at = used as usize;
-    match code(&r.element, true) {
+    match code(&r.element) {
         0 => {}
         c => return Err((c, 0)),
     }
@@ -205,7 +205,7 @@ pub fn list_of(b: &[u8], judged: impl Fn(&Stored) -> String) -> Vec<String> {
     let mut out = vec![format!("CEL {} {}", version(b), count)];
     for k in 0..count {
         let r = stored(b, k);
-        assert!(code(&r.element(), true) == 0);
+        assert!(code(&r.element()) == 0);
         out.push(format!("{} {} {}", r.id, r.kind, judged(&r)));
     }
     out

@@ -59,12 +59,12 @@ fn any_collapsed(r: &mut Random, kind: u8) -> Element {
 
 // The first element that is accepted, of those that `make` gives.
 fn first_accepted(r: &mut Random, make: impl Fn(&mut Random) -> Element) -> Element {
-    std::iter::repeat_with(|| make(r)).find(|e| code(e, true) == 0).expect("one that is accepted")
+    std::iter::repeat_with(|| make(r)).find(|e| code(e) == 0).expect("one that is accepted")
 }
 
 // That call on an element with that code.
 fn ask_with(r: &mut Random, expected: u8, call: &str, e: &Element, out: &mut Vec<String>) {
-    assert!(code(e, true) == expected, "{} {:?}", e.kind, e.coords);
+    assert!(code(e) == expected, "{} {:?}", e.kind, e.coords);
     ask(r, call, e, out);
 }
 
@@ -221,7 +221,7 @@ fn in_single_calls(r: &mut Random, out: &mut Vec<String>) {
         for fault in [1, 2, 3, 4] {
             let e = any_collapsed(r, kind);
             let e = with_fault(r, &e, fault);
-            assert!(code(&e, true) == fault);
+            assert!(code(&e) == fault);
             single_lines(r, &e, out);
         }
         for (a, b) in pairs(kind) {

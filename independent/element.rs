@@ -1,6 +1,8 @@
 // One element, straight from the rules: J from the node derivatives, control values by interpolation of J, and the cells of a level.
 // Nothing here is shared with the checker: no control point, no cutting rule, no walk.
 
+use crate::ten::{quartic_values, scaled_j};
+
 // Wide enough for all values of an element, wherever in i32 it lies.
 pub type Num = i128;
 
@@ -13,11 +15,23 @@ pub struct Element {
 }
 
 pub fn coordinate_limit(kind: u8) -> i64 {
-    if kind == 6 { 65_536 } else { 2_048 }
+    match kind {
+        6 => 65_536,
+        10 => 1_024,
+        _ => 2_048,
+    }
 }
 
 pub fn greatest_level(kind: u8) -> u8 {
-    if kind == 6 { 10 } else { 4 }
+    match kind {
+        6 => 10,
+        10 => 5,
+        _ => 4,
+    }
+}
+
+fn is_triangle(kind: u8) -> bool {
+    kind == 6 || kind == 10
 }
 
 // Whether all these numbers lie within the kind's limit.
@@ -40,7 +54,7 @@ pub fn accepted(kind: u8, coords: &[i64]) -> bool {
 // The corner nodes of a kind.
 pub fn corners(kind: u8) -> &'static [usize] {
     match kind {
-        6 => &[0, 1, 2],
+        6 | 10 => &[0, 1, 2],
         8 => &[0, 2, 5, 7],
         _ => &[0, 2, 6, 8],
     }
@@ -52,9 +66,12 @@ pub fn collapsed(kind: u8, coords: &[i64]) -> bool {
     places.iter().enumerate().any(|(n, place)| places[..n].contains(place))
 }
 
-// The code of a call on the element: 1, then 2 (the verdict only), 3, 4, 21.
-pub fn code(e: &Element, with_level: bool) -> u8 {
-    if e.kind != 6 && e.kind != 8 && e.kind != 9 {
+// The kinds that a record can have.
+pub const RECORD_KINDS: [u8; 3] = [6, 8, 9];
+
+// The code of a call that takes these kinds: 1, then 2 where it takes a limit, 3, 4, 21.
+fn code_among(kinds: &[u8], e: &Element, with_level: bool) -> u8 {
+    if !kinds.contains(&e.kind) {
         return 1;
     }
     if with_level && e.limit > greatest_level(e.kind) {
@@ -72,6 +89,16 @@ pub fn code(e: &Element, with_level: bool) -> u8 {
     0
 }
 
+// The code of control values, bounds and, with its limit, the verdict on the element: these three take kind 10, too.
+pub fn judged_code(e: &Element, with_level: bool) -> u8 {
+    code_among(&[6, 8, 9, 10], e, with_level)
+}
+
+// The code of every other call on the element.
+pub fn code(e: &Element) -> u8 {
+    code_among(&RECORD_KINDS, e, true)
+}
+
 pub fn det(a: [Num; 2], b: [Num; 2]) -> Num {
     a[0] * b[1] - a[1] * b[0]
 }
@@ -81,8 +108,8 @@ impl Element {
         [self.coords[2 * k] as Num, self.coords[2 * k + 1] as Num]
     }
 
-    // (p + q + r)²·J of a triangle at the weights p, q, r.
-    fn triangle_j(&self, p: Num, q: Num, r: Num) -> Num {
+    // (p + q + r)²·J of a six-node triangle at the weights p, q, r.
+    fn six_node_j(&self, p: Num, q: Num, r: Num) -> Num {
         let w = p + q + r;
         let [a0, a1, a2, m01, m12, m02] = [0, 1, 2, 3, 4, 5].map(|k| self.node(k));
         let mut xi = [0; 2];
@@ -92,6 +119,11 @@ impl Element {
             eta[c] = (4 * r - w) * a2[c] - (4 * p - w) * a0[c] + 4 * (p - r) * m02[c] + 4 * q * (m12[c] - m01[c]);
         }
         det(xi, eta)
+    }
+
+    // 192·w⁴·J of a ten-node triangle at whole weights with the sum w.
+    fn ten_node_j(&self, weights: [Num; 3]) -> Num {
+        scaled_j([0, 1, 2, 3, 4, 5, 6, 7, 8, 9].map(|k| self.node(k)), weights)
     }
 
     // Four times the node ij of a quad. The centre c of eight nodes is where 4c plus the corners minus twice the edge nodes is zero.
@@ -137,25 +169,29 @@ impl Element {
     pub fn grid_value(&self, d: u32, i: u64, j: u64) -> Num {
         let w = 1 << d;
         let (i, j) = (i as Num, j as Num);
-        if self.kind == 6 {
-            2 * self.triangle_j(w - i - j, i, j)
-        } else {
-            exact(36 * self.quad_j(i, w, j, w), 16)
+        match self.kind {
+            6 => 2 * self.six_node_j(w - i - j, i, j),
+            10 => self.ten_node_j([w - i - j, i, j]),
+            _ => exact(36 * self.quad_j(i, w, j, w), 16),
         }
     }
 
     pub fn on_grid(&self, d: u32, i: u64, j: u64) -> bool {
         let w = 1u64 << d;
-        if self.kind == 6 { i + j <= w } else { i <= w && j <= w }
+        if is_triangle(self.kind) { i + j <= w } else { i <= w && j <= w }
     }
 
     // The control values of a cell at level d, by interpolation of J, at the scale of the level. A triangle's cell has the corners
     // x[k], y[k] on the grid of its level; a quad's has the lower left corner x[0], y[0].
     pub fn cell_values(&self, d: u32, x: &[u64], y: &[u64]) -> Vec<Num> {
-        if self.kind == 6 { self.triangle_values(d, x, y) } else { self.quad_values(d, x[0], y[0]) }
+        match self.kind {
+            6 => self.six_node_values(d, x, y),
+            10 => self.ten_node_values(d, x, y),
+            _ => self.quad_values(d, x[0], y[0]),
+        }
     }
 
-    fn triangle_values(&self, d: u32, x: &[u64], y: &[u64]) -> Vec<Num> {
+    fn six_node_values(&self, d: u32, x: &[u64], y: &[u64]) -> Vec<Num> {
         let corner: Vec<Num> = (0..3).map(|k| self.grid_value(d, x[k], y[k])).collect();
         // the form is (c_kk + 2 c_kl + c_ll)/4 at the middle of an edge
         let edge = |k: usize, l: usize| {
@@ -163,6 +199,12 @@ impl Element {
             exact(middle - corner[k] - corner[l], 2)
         };
         vec![corner[0], corner[1], corner[2], edge(0, 1), edge(1, 2), edge(0, 2)]
+    }
+
+    fn ten_node_values(&self, d: u32, x: &[u64], y: &[u64]) -> Vec<Num> {
+        let weights = |i: u64, j: u64| [(1 << d) - i as Num - j as Num, i as Num, j as Num];
+        let v = [0, 1, 2].map(|k| weights(x[k], y[k]));
+        quartic_values(|[i, j, k]| self.ten_node_j([0, 1, 2].map(|c| i * v[0][c] + j * v[1][c] + k * v[2][c])))
     }
 
     fn quad_values(&self, d: u32, x: u64, y: u64) -> Vec<Num> {
@@ -200,7 +242,11 @@ impl Element {
     }
 
     pub fn passes(&self, v: &[Num]) -> bool {
-        let corners: &[usize] = if self.kind == 6 { &[0, 1, 2] } else { &[0, 3, 12, 15] };
+        let corners: &[usize] = match self.kind {
+            6 => &[0, 1, 2],
+            10 => &[0, 4, 14],
+            _ => &[0, 3, 12, 15],
+        };
         v.iter().enumerate().all(|(k, &z)| if corners.contains(&k) { z > 0 } else { z >= 0 })
     }
 
@@ -210,7 +256,7 @@ impl Element {
         let mut out = Vec::new();
         for j in 0..w {
             for i in 0..w {
-                if self.kind != 6 {
+                if !is_triangle(self.kind) {
                     out.push(([i; 3], [j; 3]));
                 } else if i + j < w {
                     out.push(([i, i + 1, i], [j, j, j + 1]));
@@ -225,7 +271,7 @@ impl Element {
 
     // The quarters of a cell, on the grid of the next level.
     pub fn quarters(&self, x: [u64; 3], y: [u64; 3]) -> Vec<([u64; 3], [u64; 3])> {
-        if self.kind != 6 {
+        if !is_triangle(self.kind) {
             let (a, b) = (2 * x[0], 2 * y[0]);
             return vec![([a; 3], [b; 3]), ([a + 1; 3], [b; 3]), ([a; 3], [b + 1; 3]), ([a + 1; 3], [b + 1; 3])];
         }
@@ -244,7 +290,7 @@ impl Element {
 }
 
 // A division without remainder.
-fn exact(a: Num, b: Num) -> Num {
+pub fn exact(a: Num, b: Num) -> Num {
     assert!(a % b == 0, "{} is no multiple of {}", a, b);
     a / b
 }

@@ -52,7 +52,7 @@ fn corner(times: usize, least: i64, greatest: i64) -> [i64; 2] {
 }
 
 // The shape with one difference set.
-fn with(s: &[[i64; 2]], k: usize, axis: usize, d: i64) -> Shape {
+pub fn with(s: &[[i64; 2]], k: usize, axis: usize, d: i64) -> Shape {
     let mut out = s.to_vec();
     out[k][axis] = d;
     out
@@ -65,7 +65,7 @@ fn reaching(r: &mut Random, kind: u8, k: usize, axis: usize, d: i64) -> Shape {
 }
 
 // The shape mirrored in one axis, where the sign is below zero.
-fn mirrored(s: &[[i64; 2]], axis: usize, sign: i64) -> Shape {
+pub fn mirrored(s: &[[i64; 2]], axis: usize, sign: i64) -> Shape {
     let mut out = s.to_vec();
     out.iter_mut().for_each(|p| p[axis] *= sign);
     out
@@ -200,7 +200,7 @@ pub fn ask(r: &mut Random, call: &str, e: &Element, out: &mut Vec<String>) {
 
 // So many different calls on an element that is accepted, or refused with 4.
 fn ask_some(r: &mut Random, count: usize, is_good: bool, e: Element, out: &mut Vec<String>) {
-    assert!(code(&e, true) == if is_good { 0 } else { 4 }, "{} {:?}", e.kind, e.coords);
+    assert!(code(&e) == if is_good { 0 } else { 4 }, "{} {:?}", e.kind, e.coords);
     let e = under_any(r, e);
     let first = r.range(0, CALLS.len() as i64 - 1) as usize;
     for k in 0..count {
@@ -276,7 +276,7 @@ const HALF: i64 = 1 << 30;
 
 // Where the first node lies in one axis, and where others do: about 2^32 apart, which is small in 32 bits, and about 2^31, which has
 // another sign there.
-const WRAPPED: [(i64, i64); 6] = [(LEAST, GREATEST), (GREATEST, LEAST), (LEAST, 0), (0, LEAST), (-HALF, HALF), (HALF, -HALF)];
+pub const WRAPPED: [(i64, i64); 6] = [(LEAST, GREATEST), (GREATEST, LEAST), (LEAST, 0), (0, LEAST), (-HALF, HALF), (HALF, -HALF)];
 
 // All nodes but the first so far away, and one alone.
 fn wrapped(r: &mut Random, out: &mut Vec<String>) {

@@ -47,7 +47,7 @@ pub fn floor_code(p: u8, e: &Element) -> u8 {
     if e.limit > GREATEST_LEVEL {
         return 2;
     }
-    match code(e, true) {
+    match code(e) {
         0 if p < 1 || p > 99 => 16,
         0 if straight(e) <= 0 => 17,
         c => c,

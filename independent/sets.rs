@@ -118,7 +118,7 @@ const DEEP: &[(i64, i64, i64)] = &[
 
 // Whether `verdict` accepts the element and all its coordinates lie within the kind's limit: those farther out are a set of their own.
 pub fn is_near(e: &Element) -> bool {
-    code(e, true) == 0 && within_limit(e.kind, &e.coords)
+    code(e) == 0 && within_limit(e.kind, &e.coords)
 }
 
 fn element(r: &mut Random, kind: u8, coords: Vec<i64>) -> Element {

@@ -47,7 +47,7 @@ fn least_sheet(e: &Element) -> Option<Vec<u8>> {
 
 // The sheet, or the code.
 pub fn write_sheet(room: usize, e: &Element) -> Result<Vec<u8>, u8> {
-    match code(e, true) {
+    match code(e) {
         0 => {}
         c => return Err(c),
     }
@@ -79,7 +79,7 @@ fn is_accepted(e: &Element, sheet: &[u8]) -> bool {
 
 // The code of a check.
 pub fn check_sheet(sheet: &[u8], e: &Element) -> u8 {
-    match code(e, true) {
+    match code(e) {
         0 if is_accepted(e, sheet) => 0,
         0 => NOT_ACCEPTED,
         c => c,

@@ -620,7 +620,7 @@ fn deep(r: &mut Random, out: &mut Vec<String>) {
 pub fn questions() -> Vec<String> {
     let r = &mut Random(20_261_121);
     let stock = stock(r);
-    assert!(stock.iter().all(|k| code(&k.element, true) == 0));
+    assert!(stock.iter().all(|k| code(&k.element) == 0));
     let mut out = Vec::new();
     written(r, &stock, &mut out);
     accepted(r, &stock, &mut out);

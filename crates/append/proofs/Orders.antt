@@ -13,7 +13,7 @@ use native.Mathlib.Nat as N
 use native.Mathlib.Omega.{arith}
 use lib.IntN.{ℤ}
 use lib.ListN.{length, take}
-use Rattle.element.specs.Refusals.{Codes, _then_, Refused, Accepted, verdictCodes}
+use Rattle.element.specs.Refusals.{Codes, _then_, Refused, Accepted, storedCodes}
 use Rattle.element.proofs.Refusals.{refused-some, refused-then, past-then, accepted-then, then-accepted, then-refused}
 use Rattle.block.specs.declared.Checked.{Checked}
 use Rattle.block.specs.Faults.{Fault, naming, blockCodes}
@@ -32,7 +32,7 @@ allows-allowed o l r (inr p) h = p
 
 module _ (l : List ℕ) (room id n level : ℕ) (xs : List ℤ) where
   abbrev pub given : Codes ℕ
-  given = verdictCodes n level xs then newCodes l room id
+  given = storedCodes n level xs then newCodes l room id
 
   pub block-refused : (f : Fault) → Refused (blockCodes l) f → Refused (roomCodes l room id n level xs) f
   block-refused f r = refused-then (blockCodes l) (naming 0 given) f r
@@ -45,13 +45,13 @@ module _ (l : List ℕ) (room id n level : ℕ) (xs : List ℤ) where
 
   pub record RoomSound : Type 0 where
     pub block : Accepted (blockCodes l)
-    pub element : Accepted (verdictCodes n level xs)
+    pub element : Accepted (storedCodes n level xs)
     pub other : Accepted (newCodes l room id)
 
   pub room-sound : Accepted (roomCodes l room id n level xs) → RoomSound
   room-sound a =
       let t = then-accepted (blockCodes l) (naming 0 given) a in
-      let u = then-accepted (verdictCodes n level xs) (newCodes l room id) (of-accepted 0 given (t .1)) in
+      let u = then-accepted (storedCodes n level xs) (newCodes l room id) (of-accepted 0 given (t .1)) in
       record { block = t .0; element = u .0; other = u .1 }
 
 module _ (b : List ℕ) (used id n level : ℕ) (xs : List ℤ) where

@@ -15,7 +15,7 @@ use mathlib.Core.List.{List, _++_}
 use Prim.Native.Nat.{ℕ, _-_, _≤_, _<_}
 use lib.IntN.{ℤ, pos}
 use lib.ListN.{length, take, replicate}
-use Rattle.element.specs.Refusals.{Codes, no-more, code, _then_, verdictCodes}
+use Rattle.element.specs.Refusals.{Codes, no-more, code, _then_, storedCodes}
 use Rattle.record.specs.declared.Record.{Record}
 use Rattle.record.specs.Faults.{TooLow}
 use Rattle.block.specs.Block.{countOf}
@@ -37,7 +37,7 @@ abbrev pub newCodes : List ℕ → ℕ → ℕ → Codes ℕ
 newCodes l room id = followCodes (lowest l (countOf l)) (countOf l) room id
 
 abbrev pub roomCodes : List ℕ → ℕ → ℕ → ℕ → ℕ → List ℤ → Codes Fault
-roomCodes l room id n level xs = blockCodes l then naming 0 (verdictCodes n level xs then newCodes l room id)
+roomCodes l room id n level xs = blockCodes l then naming 0 (storedCodes n level xs then newCodes l room id)
 
 -- 5: "`used` beyond it"
 abbrev pub usedCodes : List ℕ → ℕ → Codes ℕ

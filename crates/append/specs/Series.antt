@@ -17,7 +17,7 @@ use mathlib.Core.List.{List, [], _∷_, map}
 use Prim.Native.Nat.{ℕ, suc, _+_, _-_, _*_, _^_, _<_}
 use lib.IntN.{ℤ}
 use lib.ListN.{length, take}
-use Rattle.element.specs.Refusals.{Codes, _then_, Refused, Accepted, verdictCodes}
+use Rattle.element.specs.Refusals.{Codes, _then_, Refused, Accepted, storedCodes}
 use Rattle.endian.specs.Numbers.{over}
 use Rattle.record.specs.declared.Record.{Record}
 use Rattle.block.specs.Block.{recordsBytes, countOf}
@@ -60,7 +60,7 @@ IdsFit [] = Unit {0}
 IdsFit (g ∷ gs) = (g .id < 256 ^ 4) × IdsFit gs
 
 abbrev pub nextCodes : ℕ → ℕ → ℕ → Given → Codes ℕ
-nextCodes low count room g = verdictCodes (g .kind) (g .limit) (g .coords) then followCodes low count room (g .id)
+nextCodes low count room g = storedCodes (g .kind) (g .limit) (g .coords) then followCodes low count room (g .id)
 
 abbrev pub lowAfter : ℕ → List Given → ℕ
 lowAfter low [] = low

@@ -4,7 +4,7 @@ use block::check_block;
 use block::record_at;
 use endian::put_i32;
 use endian::put_u32;
-use faults::verdict_code;
+use faults::stored_code;
 use record::Record;
 ghost use mathlib.Core.Path.{_≡_};
 ghost use Prim.Native.Nat.{_+_, _*_, _≤_};
@@ -144,7 +144,7 @@ pub fn next_code(
 ) -> u8
     ensures { λ r. ⌜ Coded (nextCodes low count room (record { id = id; kind = kind; limit = limit; coords = now (coords .entry) })) r ⌝ }
 {
-    let code = verdict_code(kind, limit, coords);
+    let code = stored_code(kind, limit, coords);
     if code != 0 {
         return code;
     }

@@ -14,7 +14,7 @@ use lib.Dec.{eqb, leb, lit<}
 use lib.IntN.{ℤ}
 use lib.ListN.{length, take, drop, length-map, length-take}
 use lib.Seq.{take-all}
-use Rattle.element.specs.Kinds.{Kind, six, eight, nine, NotKind, kindOf, greatestLevel}
+use Rattle.element.specs.Kinds.{Kind, six, eight, nine, ten, NotStored, kindOf, greatestLevel}
 use Rattle.element.specs.Corners.{Collapsed}
 use Rattle.element.specs.Refusals.{Accepted, AboveLevel, WrongLength, Outside}
 use Rattle.append.specs.Append.{padded, followCodes}
@@ -31,7 +31,7 @@ use Rattle.record_text.specs.Values.{givenOf}
 use Rattle.append_text.specs.Passes.{handed}
 
 -- ---- kind and level limit
-kind-small : (n : ℕ) → ¬ NotKind n → n ≤ 9
+kind-small : (n : ℕ) → ¬ NotStored n → n ≤ 9
 kind-small n h =
     by-test (leb n 9) (n ≤ 9) (leb-true n 9)
     (λ e. let k = leb-false n 9 e in absurd (h ((λ z. absurd (omega arith)), (λ z. absurd (omega arith)), (λ z. absurd (omega arith)))))
@@ -39,19 +39,20 @@ kind-small n h =
 byte-small : (n : ℕ) → min 255 n ≤ 9 → min 255 n ≡ n
 byte-small n h = omega arith
 
-pub kind-same : (n : ℕ) → NotKind (min 255 n) → NotKind n
+pub kind-same : (n : ℕ) → NotStored (min 255 n) → NotStored n
 kind-same n h = ((λ e. h .0 (omega (arith, e))), (λ e. h .1 (omega (arith, e))), (λ e. h .2 (omega (arith, e))))
 
-same-kind : (n : ℕ) → NotKind n → NotKind (min 255 n)
+same-kind : (n : ℕ) → NotStored n → NotStored (min 255 n)
 same-kind n h = ((λ e. h .0 (omega (arith, e))), (λ e. h .1 (omega (arith, e))), (λ e. h .2 (omega (arith, e))))
 
-pub kind-is : (n : ℕ) → ¬ NotKind (min 255 n) → min 255 n ≡ n
+pub kind-is : (n : ℕ) → ¬ NotStored (min 255 n) → min 255 n ≡ n
 kind-is n h = byte-small n (kind-small (min 255 n) h)
 
 level-small : (k : Kind) → greatestLevel k ≤ 10
 level-small six = omega arith
 level-small eight = omega arith
 level-small nine = omega arith
+level-small ten = omega arith
 
 -- ---- coordinates
 pub clips-words : (us : List (List ℕ)) → Clips 4294967295 (map (clipped 4294967295) us) (map valueOf us)
@@ -88,7 +89,7 @@ module _ (low count room : ℕ) (ws : List (List ℕ)) where
   abbrev us : List (List ℕ)
   us = drop 3 ws
 
-  module _ (k : ¬ NotKind (min 255 n)) where
+  module _ (k : ¬ NotStored (min 255 n)) where
     e : min 255 n ≡ n
     e = kind-is n k
 
@@ -143,7 +144,7 @@ module _ (low count room : ℕ) (ws : List (List ℕ)) where
 
   pub handed-given : Accepted (nextCodes low count room (givenOf ws)) → given (handed ws) ≡ given (givenOf ws)
   handed-given a =
-      let k : ¬ NotKind (min 255 n) = λ h. a .0 (kind-same n h) in
+      let k : ¬ NotStored (min 255 n) = λ h. a .0 (kind-same n h) in
       let g = level-small (kindOf n) in
       let i : min 255 l ≡ l = omega (arith, g, N.le-of-suc-le-suc (N.lt-of-not-le (a .1 .0))) in
       let h : length us ≤ 18 = omega (arith, all-length us, length-is n (all us) (a .1 .1 .0), small k) in

@@ -15,10 +15,11 @@ use lib.Dec.{lit<}
 use lib.IntN.{ℤ, pos}
 use lib.ListN.{length, take, replicate, set}
 use lib.Seq.{length-take-le}
-use Rattle.element.specs.Kinds.{Kind, six, eight, nine, NotKind, kindOf, nodeCount}
+use Rattle.element.specs.Kinds.{Kind, six, eight, nine, ten, NotStored, kindOf, nodeCount}
 use Rattle.element.specs.Origin.{Unheld}
 use Rattle.element.specs.Corners.{Collapsed}
 use Rattle.element.specs.Refusals.{Accepted, AboveLevel, WrongLength, Outside}
+use Rattle.element.proofs.Stored.{stored-kind}
 use Rattle.element.proofs.Ranges.{unheld-or, unheld-outside}
 use Rattle.element.proofs.Origin.{node-count}
 use Rattle.faults.proofs.Limits.{long-of}
@@ -54,7 +55,7 @@ module _ (k : Kind) (xs ys : List ℤ) (s : Stands k xs ys) where
 
 -- ---- a record
 module _ (low count room id kind limit : ℕ) {xs ys : List ℤ} (e : length xs ≡ length ys)
-    (s : ¬ NotKind kind → ¬ WrongLength kind xs → Stands (kindOf kind) xs ys) where
+    (s : ¬ NotStored kind → ¬ WrongLength kind xs → Stands (kindOf kind) xs ys) where
   pub stands-codes :
       SameCodes (nextCodes low count room (record { id = id; kind = kind; limit = limit; coords = xs }))
       (nextCodes low count room (record { id = id; kind = kind; limit = limit; coords = ys }))
@@ -63,7 +64,7 @@ module _ (low count room id kind limit : ℕ) {xs ys : List ℤ} (e : length xs 
       let to : WrongLength kind xs → WrongLength kind ys = λ x y. x (e ∙ y) in
       let back : WrongLength kind ys → WrongLength kind xs = λ x y. x (sym e ∙ y) in
       let same : (F : Type 0) → F → F = λ F x. x in
-      same-code (same (NotKind kind)) (same (NotKind kind))
+      same-code (same (NotStored kind)) (same (NotStored kind))
       (λ f. same-code (same (AboveLevel k limit)) (same (AboveLevel k limit))
       (λ _. same-code to back
       (λ g. same-code (outside-to k xs ys (s f g)) (outside-back k xs ys (s f g))
@@ -78,15 +79,16 @@ far-outside : (k : Kind) → Outside k (take (2 * nodeCount k) (set (replicate 1
 far-outside six = ((2, lit< tt, lit< tt), inl (2, lit< tt, lit< tt))
 far-outside eight = ((2, lit< tt, lit< tt), inl (2, lit< tt, lit< tt))
 far-outside nine = ((2, lit< tt, lit< tt), inl (2, lit< tt, lit< tt))
+far-outside ten = ((2, lit< tt, lit< tt), inl (2, lit< tt, lit< tt))
 
 module _ (kind : ℕ) (xs zs : List ℤ) (n : Narrowed xs zs) (short : length xs ≤ 19) where
   pub narrowed-length : length (take (length xs) zs) ≡ length xs
   narrowed-length = length-take-le (length xs) zs (omega (arith, n .long))
 
-  pub narrowed-stands : ¬ NotKind kind → ¬ WrongLength kind (take (length xs) zs) → Stands (kindOf kind) (take (length xs) zs) xs
+  pub narrowed-stands : ¬ NotStored kind → ¬ WrongLength kind (take (length xs) zs) → Stands (kindOf kind) (take (length xs) zs) xs
   narrowed-stands f g =
       let e : length xs ≡ 2 * nodeCount (kindOf kind) =
-      sym narrowed-length ∙ long-of kind (take (length xs) zs) g ∙ ap (λ m. 2 * m) (sym (node-count kind f)) in
+      sym narrowed-length ∙ long-of kind (take (length xs) zs) g ∙ ap (λ m. 2 * m) (sym (node-count kind (stored-kind f))) in
       record {
         same = n .same;
         far = λ u. subst (λ m. Outside (kindOf kind) (take m zs)) (sym e) (subst (λ l. Outside (kindOf kind) (take (2 * nodeCount (kindOf kind)) l)) (sym (n .far u)) (far-outside (kindOf kind)));

@@ -10,7 +10,7 @@ use native.Mathlib.Numerals.{add-one}
 use native.Mathlib.Omega.{arith}
 use lib.ListN.{length}
 use Rattle.element.proofs.Refusals.{then-accepted}
-use Rattle.element.specs.Refusals.{Refused, Accepted, verdictCodes}
+use Rattle.element.specs.Refusals.{Refused, Accepted, storedCodes}
 use Rattle.endian.specs.Numbers.{over}
 use Rattle.record.specs.Record.{recordBytes}
 use Rattle.append.specs.Append.{followCodes}
@@ -26,7 +26,7 @@ module _ (s : Tally) (g : Given) where
   pub tried-short : Tried → length (g .coords) ≤ 18
   tried-short a =
       short-given (g .kind) (g .limit) (g .coords)
-      (then-accepted (verdictCodes (g .kind) (g .limit) (g .coords)) (followCodes (s .low) (s .count) (s .room) (g .id)) a .0)
+      (then-accepted (storedCodes (g .kind) (g .limit) (g .coords)) (followCodes (s .low) (s .count) (s .room) (g .id)) a .0)
 
   pub tried-room : Tried → (s .count < 800) × (80 ≤ s .room)
   tried-room a = (N.lt-of-not-le (a .1 .1 .1 .1 .1 .1 .0), omega (arith, N.lt-of-not-le (a .1 .1 .1 .1 .1 .1 .1 .0)))

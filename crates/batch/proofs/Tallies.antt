@@ -14,7 +14,7 @@ use Prim.Native.Nat.{ℕ, suc, _+_, _*_, _≤_}
 use native.Mathlib.Omega.{arith}
 use lib.ListN.{length, take, drop, length-append, take-append-drop}
 use Rattle.element.proofs.Refusals.{then-accepted}
-use Rattle.element.specs.Refusals.{verdictCodes}
+use Rattle.element.specs.Refusals.{storedCodes}
 use Rattle.endian.specs.Numbers.{over}
 use Rattle.endian.proofs.Writes.{length-over, over-more}
 use Rattle.record.specs.Record.{recordBytes}
@@ -32,7 +32,7 @@ pub passes-sized : {low count room : ℕ} {gs : List Given} → Passes low count
     → length (recordsBytes (records gs)) ≡ 80 * length gs
 passes-sized empty = refl
 passes-sized {low} {count} {room} (first {g = g} {gs = gs} a p) =
-    let v = then-accepted (verdictCodes (g .kind) (g .limit) (g .coords)) (followCodes low count room (g .id)) a .0 in
+    let v = then-accepted (storedCodes (g .kind) (g .limit) (g .coords)) (followCodes low count room (g .id)) a .0 in
     let k = given-length g (short-given (g .kind) (g .limit) (g .coords) v) in
     omega (arith, k, passes-sized p, length-append (recordBytes (given g)) (recordsBytes (records gs)))
 

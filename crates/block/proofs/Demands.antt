@@ -17,7 +17,7 @@ use native.Mathlib.Nat as N
 use native.Mathlib.Omega.{arith}
 use native.Mathlib.Decide.{decLe}
 use lib.ListN.{length}
-use Rattle.element.specs.Kinds.{NotKind, kindOf}
+use Rattle.element.specs.Kinds.{NotStored, kindOf}
 use Rattle.element.specs.Corners.{Collapsed}
 use Rattle.element.specs.Refusals.{Accepted, Outside}
 use Rattle.endian.specs.Numbers.{Bytes}
@@ -53,7 +53,7 @@ module _ (l : List ℕ) (r : Checked) (c : Checks l r) (k : ℕ) (i : k < countO
   here = recordAt l k
 
   pub collapsed-record : Accepted (headerCodes l) → Passed (codesAt l) k
-      → ¬ NotKind (here .kind)
+      → ¬ NotStored (here .kind)
       → ¬ TooHigh (versionOf l) here
       → ¬ NotZero (versionOf l) here
       → ¬ Outside (kindOf (here .kind)) (used here)

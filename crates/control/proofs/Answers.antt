@@ -1,53 +1,43 @@
 -- The answers of the calls, case by case of the code.
---   kind-six, kind-quad : the kind after the tests of the code
---   quad-count, six-values, quad-values : what it then has
---   refuses, too-short, succeeds : of `control_values`: a refusal by the element, one by the buffer, and a success
+--   six-values, ten-values, quad-values : the values of the kind that the tests of the code tell
+--   refuses, handed : of `control_values`: a refusal by the element; one by the buffer, or a success
 --   values-many, values-small : there are control values, and f64 holds them
 --   bounds-refused, bounds-told : of `solver_bounds`: a refusal and a success
 -- Assumes nothing.
 use mathlib.Core.Path.{_≡_, refl, sym, _∙_, ap, subst}
-use mathlib.Core.Bool.{Bool, true, false}
 use mathlib.Core.List.{List, _++_}
 use mathlib.Core.Logic.{_⊎_, inl, inr}
 use Prim.Native.Nat.{ℕ, _^_, _≤_, _<_}
-use borrow.Author.Tests.{eq-eqb, ne-eqb}
 use lib.Dec.{eqb, lit≤, lit<}
 use lib.IntN.{ℤ}
 use lib.ListN.{length, drop}
 use Rattle.algebra.specs.Within.{Each}
 use Rattle.algebra.proofs.Within.{each-≤, each-as}
-use Rattle.element.specs.Kinds.{Kind, six, eight, nine, kindOf, valueCount, sizeLimit}
+use Rattle.element.specs.Kinds.{Kind, six, eight, nine, ten, kindOf, valueCount, sizeLimit}
+use Rattle.element.specs.Cubic.{values10}
 use Rattle.element.specs.Control.{values6, controlValues}
-use Rattle.element.specs.Refusals.{Codes, no-more, code, Refused, Accepted, Coded, ShortRoom, boundsCodes, controlCodes}
+use Rattle.element.specs.Refusals.{Codes, no-more, code, Refused, Accepted, Coded, boundsCodes, controlCodes}
+use Rattle.element.proofs.Numbers.{kind-six, kind-ten, kind-quad}
 use Rattle.element.proofs.Values.{values-length}
 use Rattle.element.proofs.Sizes.{values-size}
 use Rattle.element.proofs.Refusals.{coded-some}
 use Rattle.faults.proofs.Limits.{accepted-inside}
 use Rattle.quad.specs.Points.{quadKind}
-use Rattle.control.specs.Calls.{controlled, ControlValues, BoundsOf, SolverBounds}
+use Rattle.control.specs.Calls.{controlled, Handed, ControlValues, BoundsOf, SolverBounds}
 use Rattle.control.specs.declared.Controlled.{Controlled}
 use Rattle.control.specs.declared.Bounds.{Bounds}
 use Rattle.control.specs.declared.Bounded.the-variants.{Both, Code}
-
-pub kind-six : (n : ℕ) → n ≡ 6 → kindOf n ≡ six
-kind-six n e = rw e refl
-
-pub kind-quad : (n : ℕ) → ¬ (n ≡ 6) → kindOf n ≡ quadKind (eqb n 8)
-kind-quad n h = rw (ne-eqb n 6 h) refl
-
-pub quad-count : (n : ℕ) → ¬ (n ≡ 6) → 16 ≡ valueCount (kindOf n)
-quad-count n h = rw (kind-quad n h) (either (eqb n 8))
-  where
-    either : (b : Bool) → 16 ≡ valueCount (quadKind b)
-    either true = refl
-    either false = refl
 
 pub six-values : (n : ℕ) (xs : List ℤ) → n ≡ 6 → values6 xs ≡ controlValues (kindOf n) xs
 unfolding controlValues
 six-values n xs e = rw (kind-six n e) refl
 
-pub quad-values : (n : ℕ) (xs : List ℤ) → ¬ (n ≡ 6) → controlValues (quadKind (eqb n 8)) xs ≡ controlValues (kindOf n) xs
-quad-values n xs h = rw (kind-quad n h) refl
+pub ten-values : (n : ℕ) (xs : List ℤ) → n ≡ 10 → values10 xs ≡ controlValues (kindOf n) xs
+unfolding controlValues
+ten-values n xs e = rw (kind-ten n e) refl
+
+pub quad-values : (n : ℕ) (xs : List ℤ) → ¬ (n ≡ 6) → ¬ (n ≡ 10) → controlValues (quadKind (eqb n 8)) xs ≡ controlValues (kindOf n) xs
+quad-values n xs h k = rw (kind-quad n h k) refl
 
 -- the order of `control_values` goes on where that of the bounds ends
 module _ (n : ℕ) (xs before : List ℤ) where
@@ -65,37 +55,38 @@ module _ (n : ℕ) (xs before : List ℤ) where
   refuses c p h q =
       subst (λ (r : Controlled). ControlValues n xs before r before) (sym q) (inl (record { refused = earlier c (coded-some p h); zeros = refl; untouched = refl }))
 
-  pub too-short : {r : Controlled} → Accepted (boundsCodes n xs)
-      → ShortRoom (kindOf n) (length before)
-      → r ≡ controlled 5 0
-      → ControlValues n xs before r before
-  too-short (f, (g, (h, (d, none)))) s q =
-      subst (λ (r : Controlled). ControlValues n xs before r before) (sym q)
-      (inl (record { refused = inr (f, inr (g, inr (h, inr (d, inl (s, refl))))); zeros = refl; untouched = refl }))
-
-  pub succeeds : {values after : List ℤ} {count : ℕ} {r : Controlled}
+  pub handed : {values after : List ℤ} {r : Controlled}
       → Accepted (boundsCodes n xs)
-      → count ≡ valueCount (kindOf n)
-      → ¬ ShortRoom (kindOf n) (length before)
       → values ≡ controlValues (kindOf n) xs
-      → after ≡ values ++ drop (length values) before
-      → r ≡ controlled 0 count
+      → Handed values before r after
       → ControlValues n xs before r after
-  succeeds (f, (g, (h, (d, none)))) m s e q t =
-      inr
-      (record {
-        accepted = (f, (g, (h, (d, (s, tt)))));
-        answer = t ∙ ap (controlled 0) m;
-        filled = q
-            ∙ ap (λ (l : List ℤ). l ++ drop (length l) before) e
-            ∙ ap (λ (m : ℕ). controlValues (kindOf n) xs ++ drop m before) (values-length (kindOf n) xs);
-      })
+  handed {values} {after} {r} (f, (g, (h, (d, none)))) e = go
+    where
+      many : length values ≡ valueCount (kindOf n)
+      many = ap length e ∙ values-length (kindOf n) xs
+
+      go : Handed values before r after → ControlValues n xs before r after
+      go (inl (s, q, u)) =
+          inl (record {
+            refused = rw (ap (λ (r : Controlled). r .code) q) (inr (f, inr (g, inr (h, inr (d, inl (rw (sym many) s, refl))))));
+            zeros = q ∙ ap (λ (c : ℕ). controlled c 0) (sym (ap (λ (r : Controlled). r .code) q));
+            untouched = u;
+          })
+      go (inr (s, q, u)) =
+          inr (record {
+            accepted = (f, (g, (h, (d, ((λ z. s (rw many z)), tt)))));
+            answer = q ∙ ap (controlled 0) many;
+            filled = u
+                ∙ ap (λ (l : List ℤ). l ++ drop (length l) before) e
+                ∙ ap (λ (m : ℕ). controlValues (kindOf n) xs ++ drop m before) (values-length (kindOf n) xs);
+          })
 
 -- ---- bounds
 size-small : (k : Kind) → sizeLimit k 0 ≤ 2 ^ 53
 size-small six = lit≤ tt
 size-small eight = lit≤ tt
 size-small nine = lit≤ tt
+size-small ten = lit≤ tt
 
 pub values-small : (n : ℕ) (xs : List ℤ) {values : List ℤ}
     → Accepted (boundsCodes n xs)
@@ -107,6 +98,7 @@ some : (k : Kind) → 0 < valueCount k
 some six = lit< tt
 some eight = lit< tt
 some nine = lit< tt
+some ten = lit< tt
 
 pub values-many : (n : ℕ) (xs : List ℤ) {values : List ℤ} → values ≡ controlValues (kindOf n) xs → 0 < length values
 values-many n xs e = rw e (rw (values-length (kindOf n) xs) (some (kindOf n)))

@@ -1,5 +1,6 @@
 pub mod Answers
 pub mod Outcomes
+pub mod Cubic
 pub mod Running
 pub mod Shut
 pub mod Whole

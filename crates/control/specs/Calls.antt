@@ -1,6 +1,7 @@
 -- What the calls `control_values` and `solver_bounds` answer, and what they leave in the buffer lent to them (01, "Codes and what
 -- they leave", "Solver bounds").
 --   controlled c m         == the answer of `control_values` with the code c and the number of values m
+--   Handed c before r after == the values c stand at the buffer's start, and their number is told; or they do not fit
 --   NoValues, Values n xs before r after == a refusal, and a success, of `control_values`
 --   ControlValues n xs before r after    == the one or the other
 --   codeOf, numberOf, boundsOf r == 01's code, record number and two bounds, for each case of the answer of `solver_bounds`
@@ -14,7 +15,7 @@
 use mathlib.Core.Path.{_≡_}
 use mathlib.Core.List.{List, _++_}
 use mathlib.Core.Logic.{_⊎_}
-use Prim.Native.Nat.{ℕ}
+use Prim.Native.Nat.{ℕ, _<_}
 use lib.IntN.{ℤ, pos}
 use lib.ListN.{length, drop}
 use Rattle.element.specs.Kinds.{kindOf, valueCount}
@@ -33,13 +34,19 @@ use Rattle.control.specs.declared.Bounded.the-variants.{Both, Code}
 abbrev pub controlled : ℕ → ℕ → Controlled
 controlled c m = record { code = c; number = 0; count = m }
 
+abbrev pub Handed : List ℤ → List ℤ → Controlled → List ℤ → Type 0
+Handed c before r after =
+    ((length before < length c) × (r ≡ controlled 5 0) × (after ≡ before))
+    ⊎ (¬ (length before < length c) × (r ≡ controlled 0 (length c)) × (after ≡ c ++ drop (length c) before))
+
 -- "A refusal returns the code, .. zero in all other fields, and changes no lent buffer"
 pub record NoValues (n : ℕ) (xs before : List ℤ) (r : Controlled) (after : List ℤ) : Type 0 where
   pub refused : Refused (controlCodes n xs (length before)) (r .code)
   pub zeros : r ≡ controlled (r .code) 0
   pub untouched : after ≡ before
 
--- "On success only the 6 or 16 values at the buffer's start (their number is the answer) .. change; the rest of the buffer stays"
+-- "On success only the 6 or 16 values at the buffer's start (their number is the answer) .. change; the rest of the buffer stays"; of ten
+-- nodes 15 values
 pub record Values (n : ℕ) (xs before : List ℤ) (r : Controlled) (after : List ℤ) : Type 0 where
   pub accepted : Accepted (controlCodes n xs (length before))
   pub answer : r ≡ controlled 0 (valueCount (kindOf n))

@@ -8,7 +8,7 @@ ghost use lib.ListN.{length, drop};
 ghost use Rattle.algebra.specs.Within.{Each};
 ghost use Rattle.element.specs.Control.{at};
 ghost use Rattle.element.specs.Bounds.{Least, Greatest};
-ghost use Rattle.control.specs.Calls.{controlled, ControlValues, BoundsOf, SolverBounds};
+ghost use Rattle.control.specs.Calls.{controlled, Handed, ControlValues, BoundsOf, SolverBounds};
 
 // The code, the record number, and the number of values at the buffer's start.
 pub struct Controlled {
@@ -52,6 +52,17 @@ fn answer(code: u8, count: usize) -> Controlled
     }
 }
 
+// The values at the start of a lent buffer, and their number; or code 5, where they do not fit.
+fn hand(out: &mut [i64], values: &[i64]) -> Controlled
+    ensures { λ r. ⌜ Handed (now (values .entry)) (now (out .entry)) r (now (out .exit)) ⌝ }
+{
+    if out.len() < values.len() {
+        return answer(5, 0);
+    }
+    put(out, values);
+    answer(0, values.len())
+}
+
 // The control values of an element, at the start of a lent buffer.
 pub fn control_values(kind: u8, coords: &[i32], out: &mut [i64]) -> Controlled
     ensures { λ r. ⌜ ControlValues kind (now (coords .entry)) (now (out .entry)) r (now (out .exit)) ⌝ }
@@ -61,19 +72,12 @@ pub fn control_values(kind: u8, coords: &[i32], out: &mut [i64]) -> Controlled
         return answer(code, 0);
     }
     if kind == 6 {
-        if out.len() < 6 {
-            return answer(5, 0);
-        }
-        let values = triangle::values(coords);
-        put(out, &values);
-        return answer(0, 6);
+        return hand(out, &triangle::values(coords));
     }
-    if out.len() < 16 {
-        return answer(5, 0);
+    if kind == 10 {
+        return hand(out, &cubic::values(coords));
     }
-    let values = quad::values(coords, kind == 8);
-    put(out, &values);
-    answer(0, 16)
+    hand(out, &quad::values(coords, kind == 8))
 }
 
 // The first number if the test holds, else the second.
@@ -127,6 +131,10 @@ pub fn solver_bounds(kind: u8, coords: &[i32]) -> Bounded
     }
     if kind == 6 {
         let values = triangle::values(coords);
+        return Bounded::Both(bounds_of(&values));
+    }
+    if kind == 10 {
+        let values = cubic::values(coords);
         return Bounded::Both(bounds_of(&values));
     }
     let values = quad::values(coords, kind == 8);

@@ -1,2 +1,3 @@
 -- What the code reports of bad points.
 pub mod First
+pub mod Triangles

@@ -14,8 +14,8 @@ use Rattle.algebra.proofs.Order.{0≤pos, ≤-antisymm, *ℤ-mono}
 use Rattle.forms.specs.Forms.{mass}
 use Rattle.forms.specs.Shapes.{spread, scaled, Sized}
 use Rattle.forms.proofs.Between.{scaled-above, scaled-below}
-use Rattle.element.specs.Kinds.{Kind, six, eight, nine, scale}
-use Rattle.element.specs.Places.{InQuad, Place, cube, weightOf}
+use Rattle.element.specs.Kinds.{Kind, six, eight, nine, ten, scale}
+use Rattle.element.specs.Places.{InQuad, Place, square, cube, whole, weightOf}
 use Rattle.element.specs.Jacobian.{jacobian, fold, factor}
 use Rattle.element.specs.Control.{controlValues, at}
 use Rattle.element.specs.Cells.{shapeOf, quadRows, rowsOf}
@@ -40,10 +40,14 @@ quad-mass x =
     let h = x .u-below in let k = x .v-below in
     six-factors (x .m - x .p + (x .p + 0)) (x .n - x .q + (x .q + 0)) (x .m) (x .n) (omega arith) (omega arith)
 
+four-factors : (a w : ℕ) → a ≡ w → a * (a * (a * (a * 1))) ≡ square (square w)
+four-factors a w e = rw e (omega arith)
+
 mass-is : (k : Kind) (x : Place k) → mass (spread (shapeOf k .counts) (rowsOf k x)) ≡ weightOf k x
 mass-is six x = omega arith
 mass-is eight x = quad-mass x
 mass-is nine x = quad-mass x
+mass-is ten x = four-factors (x .p + (x .q + (x .r + 0))) (whole x) (omega arith)
 
 -- ---- the scaled J lies between
 -- a bound of the value, taken fold² times

@@ -4,7 +4,7 @@
 --   one-none, one-first, one-later, one-not : node by node
 --   two-none, two-first, two-later, two-not : two of a list stand at one place: its first one and another, or two of the others
 --   merged, merged-is, not-merged : whether two corners stand at one place, as a test that computes
---   four-of          : what holds of the four corners of a quad holds of each
+--   three-of, four-of : what holds of the three corners of a triangle, or of the four of a quad, holds of each
 --   collapsed-moved, moved-collapsed : corners stand at one place wherever the origin is
 -- For all kinds. Assumes nothing.
 use mathlib.Core.Path.{_≡_, refl, sym, _∙_, ap}
@@ -20,7 +20,7 @@ use lib.ListN.{length, getD}
 use Rattle.algebra.specs.Expr.{var, _⊖_, _⊕_}
 use Rattle.algebra.proofs.Ring.{eq-of-sub}
 use Rattle.algebra.proofs.Solve.{solve}
-use Rattle.element.specs.Kinds.{Kind, six, eight, nine, nodeCount}
+use Rattle.element.specs.Kinds.{Kind, six, eight, nine, ten, nodeCount}
 use Rattle.element.specs.Plane.{Vec, _-ᵥ_}
 use Rattle.element.specs.Nodes.{node, A0, A1, A2, A9, A8}
 use Rattle.element.specs.Origin.{movedBy}
@@ -32,7 +32,8 @@ pub corner-nodes : (xs : List ℤ)
     → (map (node xs) (corners six) ≡ A0 xs ∷ A1 xs ∷ A2 xs ∷ [])
     × (map (node xs) (corners eight) ≡ A8 xs 0 0 ∷ A8 xs 2 0 ∷ A8 xs 0 2 ∷ A8 xs 2 2 ∷ [])
     × (map (node xs) (corners nine) ≡ A9 xs 0 0 ∷ A9 xs 2 0 ∷ A9 xs 0 2 ∷ A9 xs 2 2 ∷ [])
-corner-nodes xs = (refl, refl, refl)
+    × (map (node xs) (corners ten) ≡ A0 xs ∷ A1 xs ∷ A2 xs ∷ [])
+corner-nodes xs = (refl, refl, refl, refl)
 
 -- ---- two of a list
 -- the node a stands where one of the nodes ks does
@@ -162,6 +163,12 @@ not-merged k xs = two-tells xs (corners k) .1
 
 -- ---- wherever the origin is
 -- what holds of the four corners of a quad holds of each
+pub three-of : (P : ℕ → Type 0) → P 0 → P 1 → P 2 → (i : ℕ) → i < 3 → P i
+three-of P a b c zero h = a
+three-of P a b c (suc zero) h = b
+three-of P a b c (suc (suc zero)) h = c
+three-of P a b c (suc (suc (suc i))) h = absurd (omega arith)
+
 pub four-of : (P : ℕ → Type 0) → P 0 → P 1 → P 2 → P 3 → (i : ℕ) → i < 4 → P i
 four-of P a b c d zero h = a
 four-of P a b c d (suc zero) h = b
@@ -170,12 +177,10 @@ four-of P a b c d (suc (suc (suc zero))) h = d
 four-of P a b c d (suc (suc (suc (suc i)))) h = absurd (omega arith)
 
 corner-small : (k : Kind) (i : ℕ) → i < length (corners k) → 2 * corner k i + 1 < 2 * nodeCount k
-corner-small six zero h = lit< tt
-corner-small six (suc zero) h = lit< tt
-corner-small six (suc (suc zero)) h = lit< tt
-corner-small six (suc (suc (suc i))) h = absurd (omega arith)
+corner-small six i h = three-of (λ i. 2 * corner six i + 1 < 12) (lit< tt) (lit< tt) (lit< tt) i h
 corner-small eight i h = four-of (λ i. 2 * corner eight i + 1 < 16) (lit< tt) (lit< tt) (lit< tt) (lit< tt) i h
 corner-small nine i h = four-of (λ i. 2 * corner nine i + 1 < 18) (lit< tt) (lit< tt) (lit< tt) (lit< tt) i h
+corner-small ten i h = three-of (λ i. 2 * corner ten i + 1 < 20) (lit< tt) (lit< tt) (lit< tt) i h
 
 less-cancel : (v : Vec) {a b : Vec} → a -ᵥ v ≡ b -ᵥ v → a ≡ b
 less-cancel v {a} {b} e = vec-eq (one (a .x) (b .x) (v .x) (ap (λ (c : Vec). c .x) e)) (one (a .y) (b .y) (v .y) (ap (λ (c : Vec). c .y) e))

@@ -1,6 +1,6 @@
 -- J at the middle of an edge whose corners stand at one place (02, Ask 9).
 --   no-det           : the determinant of a difference of two equal vectors and another one is zero
---   edge-zero        : where two corners that an edge joins stand at one place, J is zero at the middle of that edge
+--   edge-zero        : where two corners that an edge joins stand at one place, J is zero at the middle of that edge, if it is quadratic
 --   middle-on        : that middle is a point of the grid of level 1
 -- For all kinds; the quads by one law over their nodes. Assumes nothing.
 use mathlib.Core.Path.{_≡_, refl, sym, _∙_, ap}
@@ -13,13 +13,13 @@ use lib.IntN.{ℤ, pos, negℤ}
 use lib.ListN.{getD}
 use Rattle.algebra.specs.Expr.{exprs, con}
 use Rattle.algebra.proofs.Solve.{solve}
-use Rattle.element.specs.Kinds.{Kind, six, eight, nine}
+use Rattle.element.specs.Kinds.{Kind, six, eight, nine, ten}
 use Rattle.element.specs.Plane.{Vec, _-ᵥ_, _*ᵥ_, det}
 use Rattle.element.specs.Places.{InQuad, Place, OnGrid, QuadAt}
 use Rattle.element.specs.Nodes.{node, A9}
 use Rattle.element.specs.Jacobian.{slopeξ, slopeη, J6, slopeU, slopeV, JQ, J9, fourfold8, J8, jacobian}
 use Rattle.element.specs.Corners.{corner, SamePlace, Collapsed}
-use Rattle.element.specs.Edges.{spot, Diagonal, AtMiddle}
+use Rattle.element.specs.Edges.{spot, Diagonal, Quadratic, AtMiddle}
 use Rattle.element.proofs.Formulas as E
 use Rattle.element.proofs.Sums.{nodeE, A9E, numbers}
 use Rattle.element.proofs.Corners.{four-of}
@@ -133,21 +133,22 @@ triangle-zero xs (suc i) (suc zero) h l e x m = absurd (omega arith)
 triangle-zero xs (suc (suc i)) (suc (suc zero)) h l e x m = absurd (omega arith)
 triangle-zero xs i (suc (suc (suc j))) h l e x m = absurd (omega arith)
 
-pub edge-zero : (k : Kind) (xs : List ℤ) (c : Collapsed k xs) → ¬ Diagonal k (c .first) (c .second)
+pub edge-zero : (k : Kind) (xs : List ℤ) (c : Collapsed k xs) → Quadratic k → ¬ Diagonal k (c .first) (c .second)
     → (x : Place k) → AtMiddle k (c .first) (c .second) x
     → jacobian k xs x ≡ pos 0
 unfolding J9 J8 fourfold8
-edge-zero six xs c f x m = triangle-zero xs (c .first) (c .second) (c .before) (c .within) (c .together) x m
-edge-zero eight xs c f x m =
+edge-zero six xs c t f x m = triangle-zero xs (c .first) (c .second) (c .before) (c .within) (c .together) x m
+edge-zero eight xs c t f x m =
     let it : (i : ℕ) → i < 4 → quadCorner (fourfold8 xs) i ≡ pos 4 *ᵥ node xs (corner eight i) =
     four-of (λ i. quadCorner (fourfold8 xs) i ≡ pos 4 *ᵥ node xs (corner eight i)) refl refl refl refl in
     quad-zero (fourfold8 xs) (c .first) (c .second) (c .before) (c .within) f
     (it (c .first) (N.lt-trans (c .before) (c .within)) ∙ ap (λ (v : Vec). pos 4 *ᵥ v) (c .together) ∙ sym (it (c .second) (c .within))) x m
-edge-zero nine xs c f x m =
+edge-zero nine xs c t f x m =
     let it : (i : ℕ) → i < 4 → quadCorner (A9 xs) i ≡ node xs (corner nine i) =
     four-of (λ i. quadCorner (A9 xs) i ≡ node xs (corner nine i)) refl refl refl refl in
     quad-zero (A9 xs) (c .first) (c .second) (c .before) (c .within) f
     (it (c .first) (N.lt-trans (c .before) (c .within)) ∙ c .together ∙ sym (it (c .second) (c .within))) x m
+edge-zero ten xs c t f x m = absurd t
 
 -- ---- where the corners are: points of the grid of level 0, and their middles of level 1
 spot6 : (i : ℕ) → OnGrid six 0 (spot six i .0) (spot six i .1)
@@ -170,3 +171,4 @@ pub middle-on : (k : Kind) (i j : ℕ) → OnGrid k 1 (spot k i .0 + spot k j .0
 middle-on six i j = let a = spot6 i in let b = spot6 j in omega arith
 middle-on eight i j = middle9 i j
 middle-on nine i j = middle9 i j
+middle-on ten i j = let a = spot6 i in let b = spot6 j in omega arith

@@ -4,6 +4,9 @@ pub mod Plane
 pub mod Sums
 pub mod Centre
 pub mod Mean
+pub mod CubicFormulas
+pub mod Cubic
+pub mod Lagrange
 pub mod Places
 pub mod Values
 pub mod Origin
@@ -14,4 +17,6 @@ pub mod Sizes
 pub mod Bounds
 pub mod Paper
 pub mod Refusals
+pub mod Numbers
+pub mod Stored
 pub mod Tried

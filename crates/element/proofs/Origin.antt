@@ -26,15 +26,18 @@ use Rattle.algebra.specs.Within.{Each}
 use Rattle.algebra.proofs.Solve.{solve}
 use Rattle.algebra.proofs.Fill.{length-listTo, getD-listTo}
 use Rattle.algebra.proofs.Within.{within--, each-of, each-≤}
-use Rattle.element.specs.Kinds.{Kind, six, eight, nine, nodeCount, kindOf, NotKind, coordinateLimit, scale}
+use Rattle.element.specs.Kinds.{Kind, six, eight, nine, ten, nodeCount, kindOf, NotKind, coordinateLimit, scale}
 use Rattle.element.specs.Plane.{_-ᵥ_}
 use Rattle.element.specs.Nodes.{node, place8}
 use Rattle.element.specs.Places.{Place}
+use Rattle.element.specs.Cubic as C3
+use Rattle.element.specs.Cubic.{J10}
 use Rattle.element.specs.Jacobian.{slopeξ, slopeη, J6, slopeU, slopeV, J9, fourfold8, J8, jacobian}
 use Rattle.element.specs.Control.{controlValues, at}
 use Rattle.element.specs.Origin.{byAxis, movedBy, fromFirst, Inside}
 use Rattle.element.proofs.Plane.{vec-eq}
 use Rattle.element.proofs.Formulas as E
+use Rattle.element.proofs.CubicFormulas as C
 use Rattle.element.proofs.Sums.{nodeE, A9E, A8E, numbers}
 use Rattle.element.proofs.Places.{control-is-J}
 use Rattle.element.proofs.Values.{values-length, values-only}
@@ -136,6 +139,14 @@ module _ (a b : ℤ) (xs : List ℤ) where
       (E.JQ exprs (E.fourfold exprs (λ i j. movedE 6 (place8 i j)) (E.centreNode exprs (λ i j. movedE 6 (place8 i j)))) (var 2) (var 3) (var 4) (var 5))
       (E.JQ exprs (E.fourfold exprs (A8E 6) (E.centreNode exprs (A8E 6))) (var 2) (var 3) (var 4) (var 5)) tt
 
+  J10-moved : (p q r : ℕ) → J10 (movedBy a b (numbers xs 0 20)) p q r ≡ J10 (numbers xs 0 20) p q r
+  unfolding J10 C3.slopeξ C3.slopeη
+  J10-moved p q r =
+      solve
+      (a ∷ b ∷ pos p ∷ pos q ∷ pos r ∷ numbers xs 0 20)
+      (C.J10 exprs (C.R10 exprs (movedE 5)) (var 2) (var 3) (var 4))
+      (C.J10 exprs (C.R10 exprs (nodeE 5)) (var 2) (var 3) (var 4)) tt
+
   pub jacobian-moved : (k : Kind) → length xs ≡ 2 * nodeCount k → (x : Place k) → jacobian k (movedBy a b xs) x ≡ jacobian k xs x
   jacobian-moved six e x =
       subst (λ (l : List ℤ). J6 (movedBy a b l) (x .p) (x .q) (x .r) ≡ J6 l (x .p) (x .q) (x .r)) (numbers-all 12 xs e)
@@ -146,6 +157,9 @@ module _ (a b : ℤ) (xs : List ℤ) where
   jacobian-moved nine e x =
       subst (λ (l : List ℤ). J9 (movedBy a b l) (x .p) (x .m) (x .q) (x .n) ≡ J9 l (x .p) (x .m) (x .q) (x .n)) (numbers-all 18 xs e)
       (J9-moved (x .p) (x .m) (x .q) (x .n))
+  jacobian-moved ten e x =
+      subst (λ (l : List ℤ). J10 (movedBy a b l) (x .p) (x .q) (x .r) ≡ J10 l (x .p) (x .q) (x .r)) (numbers-all 20 xs e)
+      (J10-moved (x .p) (x .q) (x .r))
 
   -- the control values are the only ones whose sum is the scaled J
   pub values-moved : (k : Kind) → length xs ≡ 2 * nodeCount k → controlValues k (movedBy a b xs) ≡ controlValues k xs
@@ -173,10 +187,12 @@ inside-first {k} {xs} p = go (p .range)
 
 -- ---- the kind of a number
 pub node-count : (n : ℕ) → ¬ NotKind n → nodeCount (kindOf n) ≡ n
-node-count n f = go (eqb n 6) (eqb n 8) (eqb n 9) refl refl refl
+node-count n f = go (eqb n 6) (eqb n 8) (eqb n 10) (eqb n 9) refl refl refl refl
   where
-    go : (x y z : Bool) → eqb n 6 ≡ x → eqb n 8 ≡ y → eqb n 9 ≡ z → nodeCount (cond x six (cond y eight nine)) ≡ n
-    go true y z p q r = sym (eqb-true n 6 p)
-    go false true z p q r = sym (eqb-true n 8 q)
-    go false false true p q r = sym (eqb-true n 9 r)
-    go false false false p q r = absurd (f (eqb-false n 6 p, eqb-false n 8 q, eqb-false n 9 r))
+    go : (x y t z : Bool) → eqb n 6 ≡ x → eqb n 8 ≡ y → eqb n 10 ≡ t → eqb n 9 ≡ z
+        → nodeCount (cond x six (cond y eight (cond t ten nine))) ≡ n
+    go true y t z p q s r = sym (eqb-true n 6 p)
+    go false true t z p q s r = sym (eqb-true n 8 q)
+    go false false true z p q s r = sym (eqb-true n 10 s)
+    go false false false true p q s r = sym (eqb-true n 9 r)
+    go false false false false p q s r = absurd (f ((eqb-false n 6 p, eqb-false n 8 q, eqb-false n 9 r), eqb-false n 10 s))

@@ -1,51 +1,106 @@
 -- The control values are the paper's Bézier coefficients times the scale, with fractions cleared.
 --   points-through-nodes6, points-through-edge, points-through-centre : the doubled and the fourfold points are those of the
 --                        polynomial map through the nodes
---   triangle-coefficients : value k of the list of a triangle is 2 times the coefficient N_IJK of relation 24, at the degrees of its place
+--   triangle-coefficients : value k of the list of a triangle of six nodes is 2 times the coefficient N_IJK of relation 24, at the degrees
+--                        of its place
+--   cubic-coefficients : value (I, J, K) of ten nodes, the Jth of those with this K, is 192 times that coefficient
 --   quad-coefficients  : the value at place I + 4J of the list of a quad is 36 times the coefficient N_IJ of relation 27
 -- Assumes nothing.
-use mathlib.Core.Path.{_≡_, sym, _∙_, ap}
+use mathlib.Core.Path.{_≡_, refl, sym, _∙_, ap, subst}
+use mathlib.Core.Bool.{Bool, true, cond, _&&_}
 use mathlib.Core.List.{List, [], _∷_}
 use Prim.Native.Nat.{ℕ, zero, suc, _+_, _*_, _/_, _^_, _<_}
 use native.Mathlib.Nat as N
 use native.Mathlib.Omega.{arith}
-use lib.Dec.{eqb, eqb→eq}
-use lib.IntN.{ℤ, pos, _+ℤ_, _-ℤ_, _*ℤ_, +ℤ-idl, +ℤ-idr, +ℤ-comm}
+use borrow.Author.Tests.{eq-eqb}
+use lib.Dec.{T, eqb, eqb→eq}
+use lib.IntN.{ℤ, pos, _+ℤ_, _-ℤ_, _*ℤ_}
 use lib.ListN.{getD}
 use Rattle.algebra.specs.Expr.{Expr, exprs, var, con, _⊕_, _⊖_, _⊗_}
-use Rattle.algebra.proofs.Ring.{*ℤ-assoc, 1-*ℤ}
+use Rattle.algebra.proofs.Ring.{*ℤ-assoc}
 use Rattle.algebra.proofs.Solve.{solve}
-use Rattle.forms.specs.Binomials.{choose}
-use Rattle.forms.specs.Triangles.{degrees6}
+use Rattle.forms.specs.Binomials.{choose, multinomial}
+use Rattle.forms.specs.Triangles.{degrees6, begin10}
 use Rattle.forms.specs.Quads.{sixteen}
 use Rattle.forms.proofs.Cells.{every-at}
+use Rattle.forms.proofs.Triangles.{fifteen-at}
 use Rattle.forms.proofs.Quads.{sixteen-at}
-use Rattle.element.specs.Kinds.{six, eight, nine, scale}
-use Rattle.element.specs.Plane.{Vec, _+ᵥ_, _*ᵥ_}
+use Rattle.element.specs.Kinds.{six, eight, nine, ten, scale}
+use Rattle.element.specs.Plane.{Vec, _+ᵥ_, _*ᵥ_, det}
 use Rattle.element.specs.Nodes.{A0, A1, A2, M01, M12, M02}
-use Rattle.element.specs.Control.{doubled, between, Q00, Q11, Q22, Q01, Q12, Q02, edge, centre9, points, values6, value, R9, R8, controlValues, at}
-use Rattle.element.specs.Paper.{relation24, Times24, relation27, Times27}
+use Rattle.element.specs.Control.{doubled, between, Q00, Q11, Q22, Q01, Q12, Q02, a0, a1, a2, b0, b1, b2, edge, centre9, points, values6, value, R9, R8, controlValues, at}
+use Rattle.element.specs.Cubic.{R10, value10, values10}
+use Rattle.element.specs.Paper.{Q, relation24, Times24, relation27, Times27}
 use Rattle.element.proofs.Places.{grow-both}
 use Rattle.element.proofs.Formulas as E
+use Rattle.element.proofs.CubicFormulas as C
 use Rattle.element.proofs.Plane.{vec-eq, along, gridE}
 
-ruleset drop-zeros = (+ℤ-idl, +ℤ-idr, 1-*ℤ, +ℤ-comm)
-
 -- ---- triangle: I, J, K go with A0, A1, A2
-quadrupled : (m : ℕ) (c r : ℤ) → pos m *ℤ c ≡ pos 2 *ℤ r → pos (2 ^ 2 * m) *ℤ c ≡ pos (2 * 2 ^ 2) *ℤ r
-quadrupled m c r e = ap (λ (n : ℕ). pos n *ℤ c) (N.mul-comm 4 m) ∙ grow-both m 2 4 c r e
+-- d² of the one side, f² of the other, and what is left
+times-parts : (f d m a b : ℕ) (c r : ℤ) → pos m *ℤ c ≡ pos a *ℤ r → f ^ 2 * a ≡ b * d ^ 2 → pos (f ^ 2 * m) *ℤ c ≡ pos (b * d ^ 2) *ℤ r
+times-parts f d m a b c r e h =
+    ap (λ (n : ℕ). pos n *ℤ c) (N.mul-comm (f ^ 2) m)
+    ∙ grow-both m a (f ^ 2) c r e
+    ∙ ap (λ (n : ℕ). pos n *ℤ r) (N.mul-comm a (f ^ 2) ∙ h)
+
+-- the determinants of ak and bl, at 3k + l
+dets : List ℤ → List ℤ
+dets xs =
+    det (a0 xs) (b0 xs) ∷ det (a0 xs) (b1 xs) ∷ det (a0 xs) (b2 xs)
+    ∷ det (a1 xs) (b0 xs) ∷ det (a1 xs) (b1 xs) ∷ det (a1 xs) (b2 xs)
+    ∷ det (a2 xs) (b0 xs) ∷ det (a2 xs) (b1 xs) ∷ det (a2 xs) (b2 xs) ∷ []
+
+d : ℕ → ℕ → Expr
+d k l = var (3 * k + l)
+
+-- the sum of relation 24 over them
+added : ℕ → ℕ → ℕ → Expr
+added I J K =
+    C.sum3 exprs 1 (λ i1 j1 k1. C.sum3 exprs 1 (λ i2 j2 k2.
+    cond (eqb (i1 + i2) I && eqb (j1 + j2) J && eqb (k1 + k2) K)
+    (con (pos (multinomial i1 j1 k1 * multinomial i2 j2 k2)) ⊗ d (j1 + 2 * k1) (j2 + 2 * k2)) (con (pos 0))))
 
 pub triangle-coefficients : (xs : List ℤ) (k : ℕ) → k < 6
     → let ms = getD degrees6 k [] in
-    Times24 (scale six 0) xs (getD ms 0 0) (getD ms 1 0) (getD ms 2 0) (at (controlValues six xs) k)
-unfolding controlValues values6 relation24
-triangle-coefficients xs zero h = quadrupled 1 (at (values6 xs) 0) (relation24 xs 2 0 0) (simp drop-zeros)
-triangle-coefficients xs (suc zero) h = quadrupled 1 (at (values6 xs) 1) (relation24 xs 0 2 0) (simp drop-zeros)
-triangle-coefficients xs (suc (suc zero)) h = quadrupled 1 (at (values6 xs) 2) (relation24 xs 0 0 2) (simp drop-zeros)
-triangle-coefficients xs (suc (suc (suc zero))) h = quadrupled 2 (at (values6 xs) 3) (relation24 xs 1 1 0) (simp drop-zeros)
-triangle-coefficients xs (suc (suc (suc (suc zero)))) h = quadrupled 2 (at (values6 xs) 4) (relation24 xs 0 1 1) (simp drop-zeros)
-triangle-coefficients xs (suc (suc (suc (suc (suc zero))))) h = quadrupled 2 (at (values6 xs) 5) (relation24 xs 1 0 1) (simp drop-zeros)
+    Times24 (scale six 0) 2 2 (Q xs) (getD ms 0 0) (getD ms 1 0) (getD ms 2 0) (at (controlValues six xs) k)
+unfolding controlValues values6 relation24 dets d added
+triangle-coefficients xs zero h =
+    solve (dets xs) (con (pos 4) ⊗ (con (pos 2) ⊗ d 0 0)) (con (pos 8) ⊗ added 2 0 0) tt
+triangle-coefficients xs (suc zero) h =
+    solve (dets xs) (con (pos 4) ⊗ (con (pos 2) ⊗ d 1 1)) (con (pos 8) ⊗ added 0 2 0) tt
+triangle-coefficients xs (suc (suc zero)) h =
+    solve (dets xs) (con (pos 4) ⊗ (con (pos 2) ⊗ d 2 2)) (con (pos 8) ⊗ added 0 0 2) tt
+triangle-coefficients xs (suc (suc (suc zero))) h =
+    solve (dets xs) (con (pos 8) ⊗ (d 0 1 ⊕ d 1 0)) (con (pos 8) ⊗ added 1 1 0) tt
+triangle-coefficients xs (suc (suc (suc (suc zero)))) h =
+    solve (dets xs) (con (pos 8) ⊗ (d 1 2 ⊕ d 2 1)) (con (pos 8) ⊗ added 0 1 1) tt
+triangle-coefficients xs (suc (suc (suc (suc (suc zero))))) h =
+    solve (dets xs) (con (pos 8) ⊗ (d 0 2 ⊕ d 2 0)) (con (pos 8) ⊗ added 1 0 1) tt
 triangle-coefficients xs (suc (suc (suc (suc (suc (suc k)))))) h = absurd (omega arith)
+
+-- ---- ten nodes
+-- 12 is a multiple of 4!/(I!J!K!)
+twelve-parts : (I J K : ℕ) → I + J + K ≡ 4 → multinomial I J K * (12 / multinomial I J K) ≡ 12
+twelve-parts I J K e =
+    let all = every-at (5 ∷ 5 ∷ 5 ∷ []) (λ ks. test (getD ks 0 0) (getD ks 1 0) (getD ks 2 0)) tt (I ∷ J ∷ K ∷ []) (omega arith, (omega arith, (omega arith, tt))) in
+    eqb→eq (multinomial I J K * (12 / multinomial I J K)) 12
+    (subst (λ (b : Bool). T (cond b (eqb (multinomial I J K * (12 / multinomial I J K)) 12) true)) (eq-eqb (I + J + K) 4 e) all)
+  where
+    test : ℕ → ℕ → ℕ → Bool
+    test I J K = cond (eqb (I + J + K) 4) (eqb (multinomial I J K * (12 / multinomial I J K)) 12) true
+
+value10-coefficient : (R : ℕ → ℕ → ℕ → Vec) (I J K : ℕ) → I + J + K ≡ 4 → Times24 192 12 3 R I J K (value10 R I J K)
+unfolding value10 relation24
+value10-coefficient R I J K e =
+    times-parts 12 3 (multinomial I J K) 12 192 (value10 R I J K) (relation24 R 3 I J K)
+    (sym (*ℤ-assoc (pos (multinomial I J K)) (pos (12 / multinomial I J K)) (relation24 R 3 I J K))
+    ∙ ap (λ (n : ℕ). pos n *ℤ relation24 R 3 I J K) (twelve-parts I J K e)) refl
+
+pub cubic-coefficients : (xs : List ℤ) (I J K : ℕ) → I + J + K ≡ 4
+    → Times24 (scale ten 0) 12 3 (R10 xs) I J K (at (controlValues ten xs) (begin10 K + J))
+unfolding controlValues values10
+cubic-coefficients xs I J K e = rw (fifteen-at (value10 (R10 xs)) (pos 0) I J K e) (value10-coefficient (R10 xs) I J K e)
 
 -- ---- quad
 -- 9 is a multiple of C(3,I)·C(3,J)

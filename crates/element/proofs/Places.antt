@@ -23,22 +23,24 @@ use lib.IntN.{ℤ, pos, _*ℤ_, *ℤ-comm}
 use lib.Pow.{pow-pos}
 use lib.Signed.{_≤ℤ_, _<ℤ_}
 use Rattle.algebra.specs.Expr.{var, _⊗_}
-use Rattle.algebra.proofs.Ring.{1-*ℤ}
+use Rattle.algebra.proofs.Ring.{1-*ℤ, *ℤ-assoc}
 use Rattle.algebra.proofs.Order.{0<pos, *ℤ-cancel, positive-transfer, nonpositive-transfer}
 use Rattle.algebra.proofs.Solve.{solve}
 use Rattle.forms.specs.Rows.{Row, total}
-use Rattle.forms.specs.Shapes.{scaled, Heavy, Point}
+use Rattle.forms.specs.Shapes.{Shape, scaled, Heavy, Sized, Point}
 use Rattle.forms.specs.Grids as G
 use Rattle.forms.specs.Triangles as T
 use Rattle.forms.specs.Quads as Q
 use Rattle.forms.proofs.Triangles.{rows3}
 use Rattle.forms.proofs.Quads.{rows22}
-use Rattle.element.specs.Kinds.{Kind, six, eight, nine, scale}
-use Rattle.element.specs.Places.{InQuad, Place, cube, weightOf, OnGrid, QuadAt, AtGrid}
+use Rattle.element.specs.Kinds.{Kind, six, eight, nine, ten, scale}
+use Rattle.element.specs.Places.{InTriangle, InQuad, Place, square, cube, whole, weightOf, OnGrid, TriangleAt, QuadAt, AtGrid}
 use Rattle.element.specs.Jacobian.{jacobian, fold, factor, BadBy, ShowsBy}
+use Rattle.element.specs.Cubic.{R10, values10, J10, sum10}
 use Rattle.element.specs.Control.{controlValues, sum9, controlSum}
-use Rattle.element.specs.Cells.{shapeOf, quadRows, rowsOf, Means}
+use Rattle.element.specs.Cells.{shapeOf, triangleRows, quadRows, rowsOf, Means}
 use Rattle.element.proofs.Sums.{sum6-is-J, sum8-is-J, sum9-is-J, scaled-sum6, scaled-sum9}
+use Rattle.element.proofs.Cubic.{sum10-is-J, scaled-sum10}
 
 -- ---- places as weights
 quad-point : (x : InQuad) → Point Q.quad (quadRows x)
@@ -50,6 +52,7 @@ pub place-point : (k : Kind) (x : Place k) → Point (shapeOf k) (rowsOf k x)
 place-point six x = let h = x .some in record { sized = refl; heavy = (omega arith, tt) }
 place-point eight x = quad-point x
 place-point nine x = quad-point x
+place-point ten x = let h = x .some in record { sized = refl; heavy = (omega arith, tt) }
 
 -- rows by their weights
 pub one-row : {a b c a' b' c' : ℕ} → a ≡ a' → b ≡ b' → c ≡ c' → _≡_ {A = List Row} ((a ∷ b ∷ c ∷ []) ∷ []) ((a' ∷ b' ∷ c' ∷ []) ∷ [])
@@ -62,10 +65,10 @@ two-rows p q r s = cc
 abbrev Placed : (k : Kind) → List Row → Type 0
 Placed k ws = (x : Place k) × (rowsOf k x ≡ ws)
 
-triangle-place : (ws : List Row) → Point T.six ws → Placed six ws
-triangle-place ws h = let (x, y, z, e) = rows3 ws (h .sized) in go x y z e (subst Heavy e (h .heavy))
+triangle-place : (ws : List Row) → Sized (3 ∷ []) ws → Heavy ws → (x : InTriangle) × (triangleRows x ≡ ws)
+triangle-place ws s h = let (x, y, z, e) = rows3 ws s in go x y z e (subst Heavy e h)
   where
-    go : (x y z : ℕ) → ws ≡ (x ∷ y ∷ z ∷ []) ∷ [] → Heavy ((x ∷ y ∷ z ∷ []) ∷ []) → Placed six ws
+    go : (x y z : ℕ) → ws ≡ (x ∷ y ∷ z ∷ []) ∷ [] → Heavy ((x ∷ y ∷ z ∷ []) ∷ []) → (x : InTriangle) × (triangleRows x ≡ ws)
     go x y z e (p, u) = (record { p = x; q = y; r = z; some = omega arith }, sym e)
 
 quad-place : (ws : List Row) → Point Q.quad ws → (x : InQuad) × (quadRows x ≡ ws)
@@ -78,9 +81,10 @@ quad-place ws h = let (a, b, c, d, e) = rows22 ws (h .sized) in go a b c d e (su
     )
 
 pub place-of : (k : Kind) (ws : List Row) → Point (shapeOf k) ws → Placed k ws
-place-of six ws h = triangle-place ws h
+place-of six ws h = triangle-place ws (h .sized) (h .heavy)
 place-of eight ws h = quad-place ws h
 place-of nine ws h = quad-place ws h
+place-of ten ws h = triangle-place ws (h .sized) (h .heavy)
 
 -- ---- values at places
 quad-sum : (c : List ℤ) (p m q n : ℕ) → p ≤ m
@@ -94,6 +98,12 @@ pub scaled-control : (k : Kind) (c : List ℤ) (x : Place k) → scaled (shapeOf
 scaled-control six c x = scaled-sum6 c (x .p) (x .q) (x .r)
 scaled-control eight c x = quad-sum c (x .p) (x .m) (x .q) (x .n) (x .u-below) (x .v-below)
 scaled-control nine c x = quad-sum c (x .p) (x .m) (x .q) (x .n) (x .u-below) (x .v-below)
+scaled-control ten c x = scaled-sum10 c (x .p) (x .q) (x .r)
+
+-- 16 times the sum, which is 12 times the determinant
+ten-is-J : (xs : List ℤ) (p q r : ℕ) → pos 16 *ℤ sum10 (values10 xs) (pos p) (pos q) (pos r) ≡ pos 192 *ℤ J10 xs p q r
+unfolding values10 J10
+ten-is-J xs p q r = ap (λ z. pos 16 *ℤ z) (sum10-is-J (R10 xs) (pos p) (pos q) (pos r)) ∙ sym (*ℤ-assoc (pos 16) (pos 12) (J10 xs p q r))
 
 pub control-is-J : (k : Kind) (xs : List ℤ) (x : Place k)
     → pos (fold k * fold k) *ℤ controlSum k (controlValues k xs) x ≡ pos (scale k 0) *ℤ jacobian k xs x
@@ -101,6 +111,7 @@ unfolding controlValues
 control-is-J six xs x = 1-*ℤ (controlSum six (controlValues six xs) x) ∙ sum6-is-J xs (x .p) (x .q) (x .r)
 control-is-J eight xs x = sum8-is-J xs (x .p) (x .m) (x .q) (x .n)
 control-is-J nine xs x = 1-*ℤ (controlSum nine (controlValues nine xs) x) ∙ sum9-is-J xs (x .p) (x .m) (x .q) (x .n)
+control-is-J ten xs x = ten-is-J xs (x .p) (x .q) (x .r)
 
 pub scaled-is-J : (k : Kind) (xs : List ℤ) → Means k (jacobian k xs) (controlValues k xs)
 scaled-is-J k xs x = ap (λ z. pos (fold k * fold k) *ℤ z) (scaled-control k (controlValues k xs) x) ∙ control-is-J k xs x
@@ -109,15 +120,20 @@ pub fold-above : (k : Kind) → 0 < fold k * fold k
 fold-above six = lit< tt
 fold-above eight = lit< tt
 fold-above nine = lit< tt
+fold-above ten = lit< tt
 
 -- the weight of a place is not zero
+square-above : (n : ℕ) → 0 < n → 0 < square n
+square-above n h = N.mul-pos h h
+
 cube-above : (n : ℕ) → 0 < n → 0 < cube n
 cube-above n h = N.mul-pos (N.mul-pos h h) h
 
 pub weight-above : (k : Kind) (x : Place k) → 0 < weightOf k x
-weight-above six x = N.mul-pos (x .some) (x .some)
+weight-above six x = square-above (whole x) (x .some)
 weight-above eight x = N.mul-pos (cube-above (x .m) (x .m-above)) (cube-above (x .n) (x .n-above))
 weight-above nine x = N.mul-pos (cube-above (x .m) (x .m-above)) (cube-above (x .n) (x .n-above))
+weight-above ten x = square-above (square (whole x)) (square-above (whole x) (x .some))
 
 pub factor-above : (k : Kind) (x : Place k) → 0 < factor k x
 factor-above k x = N.mul-pos (fold-above k) (weight-above k x)
@@ -126,6 +142,7 @@ pub scale-above : (k : Kind) → 0 < scale k 0
 scale-above six = lit< tt
 scale-above eight = lit< tt
 scale-above nine = lit< tt
+scale-above ten = lit< tt
 
 pub positive-there : (k : Kind) (f : Place k → ℤ) (c : List ℤ) → Means k f c
     → (x : Place k)
@@ -134,6 +151,11 @@ pub positive-there : (k : Kind) (f : Place k → ℤ) (c : List ℤ) → Means k
 positive-there k f c m x h = positive-transfer (fold k * fold k) (scale k 0) (scaled (shapeOf k) c (rowsOf k x)) (f x) (fold-above k) (m x) h
 
 -- ---- grid points
+triangle-grid : (d i j : ℕ) → i + j ≤ 2 ^ d → (x : InTriangle) × TriangleAt d i j x
+triangle-grid d i j h =
+    let t : 2 ^ d - i - j + i + j ≡ 2 ^ d = omega arith in
+    (record { p = 2 ^ d - i - j; q = i; r = j; some = rw t (pow-pos d) }, (refl, refl, t))
+
 quad-grid : (d i j : ℕ) → (i ≤ 2 ^ d) × (j ≤ 2 ^ d) → (x : InQuad) × QuadAt d i j x
 quad-grid d i j (h, g) = (
   record { p = i; m = 2 ^ d; q = j; n = 2 ^ d; u-below = h; v-below = g; m-above = pow-pos d; n-above = pow-pos d },
@@ -141,26 +163,28 @@ quad-grid d i j (h, g) = (
 )
 
 pub grid-place : (k : Kind) (d i j : ℕ) → OnGrid k d i j → (x : Place k) × AtGrid k d i j x
-grid-place six d i j h =
-    let t : 2 ^ d - i - j + i + j ≡ 2 ^ d = omega arith in
-    (record { p = 2 ^ d - i - j; q = i; r = j; some = rw t (pow-pos d) }, (refl, refl, t))
+grid-place six d i j h = triangle-grid d i j h
 grid-place eight d i j h = quad-grid d i j h
 grid-place nine d i j h = quad-grid d i j h
+grid-place ten d i j h = triangle-grid d i j h
 
 pub place-grid : (k : Kind) (d i j : ℕ) (x : Place k) → AtGrid k d i j x → OnGrid k d i j
 place-grid six d i j x (a, b, c) = omega arith
 place-grid eight d i j x (a, b, c, e) = (omega (arith, x .u-below), omega (arith, x .v-below))
 place-grid nine d i j x (a, b, c, e) = (omega (arith, x .u-below), omega (arith, x .v-below))
+place-grid ten d i j x (a, b, c) = omega arith
 
 pub grid-on : (k : Kind) (d i j : ℕ) → OnGrid k d i j → G.OnGrid (shapeOf k) d i j
 grid-on six d i j h = record { row-in = omega arith; column-in = omega arith }
 grid-on eight d i j (h, g) = record { row-in = g; column-in = h }
 grid-on nine d i j (h, g) = record { row-in = g; column-in = h }
+grid-on ten d i j h = record { row-in = omega arith; column-in = omega arith }
 
 pub on-grid : (k : Kind) (d i j : ℕ) → G.OnGrid (shapeOf k) d i j → OnGrid k d i j
 on-grid six d i j g = let r = g .row-in in let c = g .column-in in omega arith
 on-grid eight d i j g = (g .column-in, g .row-in)
 on-grid nine d i j g = (g .column-in, g .row-in)
+on-grid ten d i j g = let r = g .row-in in let c = g .column-in in omega arith
 
 quad-rows : (d i j : ℕ) (x : InQuad) → QuadAt d i j x → quadRows x ≡ G.gridPoint Q.quad d i j
 quad-rows d i j x (a, b, c, e) = two-rows (omega arith) a (omega arith) c
@@ -169,6 +193,7 @@ pub grid-rows : (k : Kind) (d i j : ℕ) (x : Place k) → AtGrid k d i j x → 
 grid-rows six d i j x (a, b, c) = one-row (omega arith) a b
 grid-rows eight d i j x h = quad-rows d i j x h
 grid-rows nine d i j x h = quad-rows d i j x h
+grid-rows ten d i j x (a, b, c) = one-row (omega arith) a b
 
 quad-rows-at : (d i j : ℕ) (x : InQuad) → (i ≤ 2 ^ d) × (j ≤ 2 ^ d) → quadRows x ≡ G.gridPoint Q.quad d i j → QuadAt d i j x
 quad-rows-at d i j x (h, g) e =
@@ -176,18 +201,25 @@ quad-rows-at d i j x (h, g) e =
     let m : x .m - x .p ≡ 2 ^ d - i = cc in let n : x .n - x .q ≡ 2 ^ d - j = cc in
     (a, omega (arith, x .u-below), b, omega (arith, x .v-below))
 
-pub rows-grid : (k : Kind) (d i j : ℕ) (x : Place k) → OnGrid k d i j → rowsOf k x ≡ G.gridPoint (shapeOf k) d i j → AtGrid k d i j x
-rows-grid six d i j x o e =
+triangle-rows-at : (d i j : ℕ) (x : InTriangle) → i + j ≤ 2 ^ d
+    → triangleRows x ≡ ((2 ^ d - i - j) ∷ i ∷ j ∷ []) ∷ []
+    → TriangleAt d i j x
+triangle-rows-at d i j x o e =
     let a : x .q ≡ i = cc in let b : x .r ≡ j = cc in let c : x .p ≡ 2 ^ d - i - j = cc in (a, b, omega arith)
+
+pub rows-grid : (k : Kind) (d i j : ℕ) (x : Place k) → OnGrid k d i j → rowsOf k x ≡ G.gridPoint (shapeOf k) d i j → AtGrid k d i j x
+rows-grid six d i j x o e = triangle-rows-at d i j x o e
 rows-grid eight d i j x o e = quad-rows-at d i j x o e
 rows-grid nine d i j x o e = quad-rows-at d i j x o e
+rows-grid ten d i j x o e = triangle-rows-at d i j x o e
 
 -- ---- the scale of a level
 -- the weight of a place over n: ξ and η, or u and v, are fractions of n parts
 abbrev pub over : Kind → ℕ → ℕ
-over six n = n * n
+over six n = square n
 over eight n = cube n * cube n
 over nine n = cube n * cube n
+over ten n = square (square n)
 
 pub power-* : (a b d : ℕ) → (a * b) ^ d ≡ a ^ d * b ^ d
 power-* a b zero = rw (N.pow-zero (a * b), N.pow-zero a, N.pow-zero b)
@@ -196,7 +228,7 @@ power-* a b (suc d) = rw (N.pow-suc (a * b) d, N.pow-suc a d, N.pow-suc b d, pow
     swap : (x y : ℕ) → x * y * (a * b) ≡ x * a * (y * b)
     swap x y = omega arith
 
-four-is : (d : ℕ) → 4 ^ d ≡ 2 ^ d * 2 ^ d
+four-is : (d : ℕ) → 4 ^ d ≡ square (2 ^ d)
 four-is d = power-* 2 2 d
 
 eight-is : (d : ℕ) → 8 ^ d ≡ cube (2 ^ d)
@@ -205,17 +237,32 @@ eight-is d = power-* 4 2 d ∙ ap (λ (n : ℕ). n * 2 ^ d) (four-is d)
 quad-scale : (d : ℕ) → 36 * 64 ^ d ≡ 36 * 64 ^ 0 * (cube (2 ^ d) * cube (2 ^ d))
 quad-scale d = ap (λ (n : ℕ). 36 * n) (power-* 8 8 d ∙ ap (λ (n : ℕ). n * n) (eight-is d))
 
+sixteen-is : (d : ℕ) → 16 ^ d ≡ square (square (2 ^ d))
+sixteen-is d = power-* 4 4 d ∙ ap square (four-is d)
+
 pub scale-is : (k : Kind) (d : ℕ) → scale k d ≡ scale k 0 * over k (2 ^ d)
 scale-is six d = ap (λ (n : ℕ). 2 * n) (four-is d)
 scale-is eight d = quad-scale d
 scale-is nine d = quad-scale d
+scale-is ten d = ap (λ (n : ℕ). 192 * n) (sixteen-is d)
 
 grid-weight : (k : Kind) (d i j : ℕ) (x : Place k) → AtGrid k d i j x → weightOf k x ≡ over k (2 ^ d)
-grid-weight six d i j x (a, b, c) = ap (λ (n : ℕ). n * n) c
+grid-weight six d i j x (a, b, c) = ap square c
 grid-weight eight d i j x (a, b, c, e) = ap₂ (λ (m n : ℕ). cube m * cube n) b e
 grid-weight nine d i j x (a, b, c, e) = ap₂ (λ (m n : ℕ). cube m * cube n) b e
+grid-weight ten d i j x (a, b, c) = ap (λ (n : ℕ). square (square n)) c
 
 -- a place over n times as many parts
+whole-times : (n : ℕ) (x y : InTriangle) → map total (triangleRows y) ≡ map (λ h. n * h) (map total (triangleRows x)) → whole y ≡ n * whole x
+whole-times n x y e =
+    let a : y .p + (y .q + (y .r + 0)) ≡ n * (x .p + (x .q + (x .r + 0))) = cc in
+    let f : y .p + y .q + y .r ≡ y .p + (y .q + (y .r + 0)) = omega arith in
+    let g : x .p + (x .q + (x .r + 0)) ≡ x .p + x .q + x .r = omega arith in
+    f ∙ a ∙ ap (λ (w : ℕ). n * w) g
+
+square-times : (n w : ℕ) → square (n * w) ≡ square n * square w
+square-times n w = omega arith
+
 quad-times : (n : ℕ) (x y : InQuad) → map total (quadRows y) ≡ map (λ h. n * h) (map total (quadRows x))
     → cube (y .m) * cube (y .n) ≡ cube n * cube n * (cube (x .m) * cube (x .n))
 quad-times n x y e =
@@ -234,16 +281,11 @@ quad-times n x y e =
 
 pub weight-times : (k : Kind) (n : ℕ) (x y : Place k) → map total (rowsOf k y) ≡ map (λ h. n * h) (map total (rowsOf k x))
     → weightOf k y ≡ over k n * weightOf k x
-weight-times six n x y e =
-    let a : y .p + (y .q + (y .r + 0)) ≡ n * (x .p + (x .q + (x .r + 0))) = cc in
-    let f : y .p + y .q + y .r ≡ y .p + (y .q + (y .r + 0)) = omega arith in
-    let g : x .p + (x .q + (x .r + 0)) ≡ x .p + x .q + x .r = omega arith in
-    ap (λ (w : ℕ). w * w) (f ∙ a ∙ ap (λ (w : ℕ). n * w) g) ∙ apart (x .p + x .q + x .r)
-  where
-    apart : (w : ℕ) → n * w * (n * w) ≡ n * n * (w * w)
-    apart w = omega arith
+weight-times six n x y e = ap square (whole-times n x y e) ∙ square-times n (whole x)
 weight-times eight n x y e = quad-times n x y e
 weight-times nine n x y e = quad-times n x y e
+weight-times ten n x y e =
+    ap square (ap square (whole-times n x y e) ∙ square-times n (whole x)) ∙ square-times (square n) (square (whole x))
 
 -- an equation of scaled numbers, with both scales grown
 pub grow-both : (a b w : ℕ) (x y : ℤ) → pos a *ℤ x ≡ pos b *ℤ y → pos (a * w) *ℤ x ≡ pos (b * w) *ℤ y

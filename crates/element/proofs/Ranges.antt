@@ -21,7 +21,7 @@ use lib.ListN.{length, List·getD-eq-default}
 use lib.Signed.{mag}
 use Rattle.algebra.specs.Within.{Each}
 use Rattle.algebra.proofs.Within.{each-nil, each-cons}
-use Rattle.element.specs.Kinds.{Kind, six, eight, nine, coordinateLimit}
+use Rattle.element.specs.Kinds.{Kind, six, eight, nine, ten, coordinateLimit}
 use Rattle.element.specs.Control.{at}
 use Rattle.element.specs.Origin.{fromFirst, Ranged, Held, Unheld}
 use Rattle.element.specs.Refusals.{Beyond, Astray, Outside}
@@ -78,6 +78,7 @@ pub limit-held : (k : Kind) → coordinateLimit k < 2147483648
 limit-held six = lit< tt
 limit-held eight = lit< tt
 limit-held nine = lit< tt
+limit-held ten = lit< tt
 
 -- past the end stands 0
 pub held-at : (k : Kind) (xs : List ℤ) → ¬ Outside k xs → (i : ℕ) → Held (at xs i)

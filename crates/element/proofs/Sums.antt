@@ -67,7 +67,7 @@ module _ (xs : List ℤ) where
 
 -- ---- the kind's form
 -- rows of weights as variables from b on
-abbrev rowE : ℕ → ℕ → List Expr
+abbrev pub rowE : ℕ → ℕ → List Expr
 rowE b zero = []
 rowE b (suc n) = var b ∷ rowE (b + 1) n
 

@@ -16,7 +16,7 @@ use lib.Dec.{T, leb, eqb, leb→le, eqb→eq}
 use lib.IntN.{ℤ, natAbs}
 use lib.ListN.{length}
 use Rattle.algebra.proofs.Truth.{T-and}
-use Rattle.element.specs.Kinds.{Kind, six, eight, nine, nodeCount, kindOf, NotKind, coordinateLimit, greatestLevel}
+use Rattle.element.specs.Kinds.{Kind, six, eight, nine, ten, nodeCount, kindOf, NotKind, coordinateLimit, greatestLevel}
 use Rattle.element.specs.Control.{at}
 use Rattle.element.specs.Corners.{Collapsed}
 use Rattle.element.specs.Refusals.{Refused, Accepted, AboveLevel, WrongLength, Outside, verdictCodes}
@@ -54,11 +54,13 @@ pub kind-of-nodes : (k : Kind) → kindOf (nodeCount k) ≡ k
 kind-of-nodes six = refl
 kind-of-nodes eight = refl
 kind-of-nodes nine = refl
+kind-of-nodes ten = refl
 
 pub is-kind : (k : Kind) → ¬ NotKind (nodeCount k)
-is-kind six f = f .0 refl
-is-kind eight f = f .1 refl
-is-kind nine f = f .2 refl
+is-kind six f = f .0 .0 refl
+is-kind eight f = f .0 .1 refl
+is-kind nine f = f .0 .2 refl
+is-kind ten f = f .1 refl
 
 -- ---- with a level limit
 level-within : (k : Kind) (l : ℕ) → T (leb l (greatestLevel k)) → ¬ AboveLevel k l

@@ -21,12 +21,13 @@ use Rattle.forms.specs.Shapes.{scaled, tip, cornerValue, Point, Lawful}
 use Rattle.forms.specs.Grids.{inWhole, cornerColumn, cornerRow}
 use Rattle.forms.specs.Polar.{readable}
 use Rattle.forms.proofs.Grids.{inWhole-sized, inWhole-adds, inWhole-heavy, value-cell, corner-value, corner-grid}
-use Rattle.forms.proofs.Triangles.{six-lawful}
+use Rattle.forms.proofs.Triangles.{six-lawful, ten-lawful}
 use Rattle.forms.proofs.Quads.{quad-lawful}
-use Rattle.forms.proofs.Polar.{stored-only, six-readable, quad-readable}
-use Rattle.element.specs.Kinds.{Kind, six, eight, nine, valueCount, scale}
+use Rattle.forms.proofs.Polar.{stored-only, six-readable, ten-readable, quad-readable}
+use Rattle.element.specs.Kinds.{Kind, six, eight, nine, ten, valueCount, scale}
 use Rattle.element.specs.Places.{Place, weightOf, AtGrid}
 use Rattle.element.specs.Jacobian.{jacobian, fold, factor, Shows}
+use Rattle.element.specs.Cubic.{values10}
 use Rattle.element.specs.Control.{values6, controlValues, controlSum}
 use Rattle.element.specs.Cells.{shapeOf, rowsOf, cell, LiesAt}
 use Rattle.element.proofs.Places.{place-point, place-of, scaled-control, control-is-J, scaled-is-J, fold-above, on-grid, rows-grid, over, scale-is, weight-times, grow-both, value-shows}
@@ -35,22 +36,26 @@ pub shape-lawful : (k : Kind) → Lawful (shapeOf k)
 shape-lawful six = six-lawful
 shape-lawful eight = quad-lawful
 shape-lawful nine = quad-lawful
+shape-lawful ten = ten-lawful
 
 pub shape-readable : (k : Kind) → T (readable (shapeOf k))
 shape-readable six = six-readable
 shape-readable eight = quad-readable
 shape-readable nine = quad-readable
+shape-readable ten = ten-readable
 
 pub values-length : (k : Kind) (xs : List ℤ) → length (controlValues k xs) ≡ valueCount k
-unfolding controlValues values6
+unfolding controlValues values6 values10
 values-length six xs = refl
 values-length eight xs = refl
 values-length nine xs = refl
+values-length ten xs = refl
 
 pub entries-count : (k : Kind) → valueCount k ≡ length (shapeOf k .entries)
 entries-count six = refl
 entries-count eight = refl
 entries-count nine = refl
+entries-count ten = refl
 
 -- ---- the only values
 pub values-only : (k : Kind) (xs c : List ℤ) → length c ≡ valueCount k

@@ -8,7 +8,7 @@
 --   R9, R8 xs i j       == the fourfold control point ij
 --   α, β R i j          == differences along u and along v
 --   value R I J         == value (I, J), by the sum over the four indices
---   controlValues k xs  == the control values of the element
+--   controlValues k xs  == the control values of the element; those of ten nodes stand in Cubic
 --   sum6 c p q r        == c00p² + c11q² + c22r² + 2(c01pq + c12qr + c02pr)
 --   sum9 c p m q n      == the sum of value (I, J) times C(3,I)·C(3,J)·p^I·(m-p)^(3-I)·q^J·(n-q)^(3-J)
 --   controlSum k c x    == the sum of the kind at a place of the element
@@ -21,9 +21,10 @@ use lib.IntN.{ℤ, pos, _+ℤ_, _-ℤ_, _*ℤ_}
 use lib.ListN.{getD}
 use Rattle.forms.specs.Binomials.{choose}
 use Rattle.forms.specs.Quads.{sixteen}
-use Rattle.element.specs.Kinds.{Kind, six, eight, nine}
+use Rattle.element.specs.Kinds.{Kind, six, eight, nine, ten}
 use Rattle.element.specs.Places.{Place}
-use Rattle.element.specs.Plane.{Vec, _+ᵥ_, _-ᵥ_, _*ᵥ_, det, sum}
+use Rattle.element.specs.Plane.{Vec, _+ᵥ_, _-ᵥ_, _*ᵥ_, det, sum, power}
+use Rattle.element.specs.Cubic.{values10, sum10}
 use Rattle.element.specs.Nodes.{A0, A1, A2, M01, M12, M02, A9, A8}
 use Rattle.element.specs.Centre.{cornerSum, edgeSum}
 
@@ -129,6 +130,7 @@ unfoldable pub controlValues : Kind → List ℤ → List ℤ
 controlValues six xs = values6 xs
 controlValues eight xs = sixteen (value (R8 xs))
 controlValues nine xs = sixteen (value (R9 xs))
+controlValues ten xs = values10 xs
 
 -- ---- the sums over the control values c
 abbrev pub at : List ℤ → ℕ → ℤ
@@ -138,10 +140,6 @@ unfoldable pub sum6 : List ℤ → ℤ → ℤ → ℤ → ℤ
 sum6 c p q r =
     at c 0 *ℤ (p *ℤ p) +ℤ at c 1 *ℤ (q *ℤ q) +ℤ at c 2 *ℤ (r *ℤ r)
     +ℤ pos 2 *ℤ (at c 3 *ℤ (p *ℤ q) +ℤ at c 4 *ℤ (q *ℤ r) +ℤ at c 5 *ℤ (p *ℤ r))
-
-abbrev pub power : ℤ → ℕ → ℤ
-power z zero = pos 1
-power z (suc n) = power z n *ℤ z
 
 abbrev pub bernstein : ℤ → ℤ → ℕ → ℤ
 bernstein p m I = pos (choose 3 I) *ℤ (power p I *ℤ power (m -ℤ p) (3 - I))
@@ -154,3 +152,4 @@ abbrev pub controlSum : (k : Kind) → List ℤ → Place k → ℤ
 controlSum six c x = sum6 c (pos (x .p)) (pos (x .q)) (pos (x .r))
 controlSum eight c x = sum9 c (pos (x .p)) (pos (x .m)) (pos (x .q)) (pos (x .n))
 controlSum nine c x = sum9 c (pos (x .p)) (pos (x .m)) (pos (x .q)) (pos (x .n))
+controlSum ten c x = sum10 c (pos (x .p)) (pos (x .q)) (pos (x .r))

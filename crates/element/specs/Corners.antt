@@ -10,7 +10,7 @@ use mathlib.Core.List.{List, [], _∷_}
 use Prim.Native.Nat.{ℕ, _<_}
 use lib.IntN.{ℤ}
 use lib.ListN.{length, getD}
-use Rattle.element.specs.Kinds.{Kind, six, eight, nine}
+use Rattle.element.specs.Kinds.{Kind, six, eight, nine, ten}
 use Rattle.element.specs.Nodes.{node}
 
 -- "A0, A1, A2, .."; 00, 20, 02 and 22 of a quad, whose nodes stand in rows
@@ -18,6 +18,7 @@ abbrev pub corners : Kind → List ℕ
 corners six = 0 ∷ 1 ∷ 2 ∷ []
 corners eight = 0 ∷ 2 ∷ 5 ∷ 7 ∷ []
 corners nine = 0 ∷ 2 ∷ 6 ∷ 8 ∷ []
+corners ten = 0 ∷ 1 ∷ 2 ∷ []
 
 abbrev pub corner : Kind → ℕ → ℕ
 corner k i = getD (corners k) i 0

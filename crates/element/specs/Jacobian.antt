@@ -8,9 +8,10 @@
 --   J9 xs p m q n             == that of nine nodes
 --   fourfold8 xs i j          == four times the nodes of an eight-node quad, its centre by relation 31
 --   J8 xs p m q n             == the determinant of both slopes taken fourfold, 16·m³n³·J
+--   J10, of ten nodes, stands in Cubic: 16·w⁴·J
 --   jacobian k xs x           == the determinant at the place x of an element of kind k
---   fold k                    == how many fold the slopes are taken: 4 for eight nodes, else 1
---   factor k x                == jacobian k xs x is so many times J at the place x: fold² times w², or m³n³
+--   fold k                    == how many fold the slopes are taken: 4 for eight nodes and for ten, else 1
+--   factor k x                == jacobian k xs x is so many times J at the place x: fold² times the weight of the place
 --   BadBy k f d i j           == f, a whole number at each place, is not positive at the point (i, j) of the grid of level d
 --   ShowsBy k f d i j z       == z is f divided by `factor` at that point, times the scale of level d, without division
 --   Bad k xs d i j            == J is not positive at that point
@@ -21,11 +22,12 @@ use mathlib.Core.List.{List}
 use Prim.Native.Nat.{ℕ, zero, suc, _*_}
 use lib.IntN.{ℤ, pos, _+ℤ_, _-ℤ_, _*ℤ_}
 use lib.Signed.{_≤ℤ_}
-use Rattle.element.specs.Kinds.{Kind, six, eight, nine, scale}
+use Rattle.element.specs.Kinds.{Kind, six, eight, nine, ten, scale}
 use Rattle.element.specs.Plane.{Vec, _+ᵥ_, _-ᵥ_, _*ᵥ_, det, sumᵥ}
 use Rattle.element.specs.Places.{Place, weightOf, AtGrid}
 use Rattle.element.specs.Nodes.{A0, A1, A2, M01, M12, M02, A9, A8}
 use Rattle.element.specs.Centre.{fourfold, centreNode}
+use Rattle.element.specs.Cubic.{J10}
 
 -- ---- triangle
 -- "w·X_ξ = (4q-w)A1 - (4p-w)A0 + 4(p-q)M01 + 4r(M12-M02)"
@@ -80,12 +82,14 @@ abbrev pub jacobian : (k : Kind) → List ℤ → Place k → ℤ
 jacobian six xs x = J6 xs (x .p) (x .q) (x .r)
 jacobian eight xs x = J8 xs (x .p) (x .m) (x .q) (x .n)
 jacobian nine xs x = J9 xs (x .p) (x .m) (x .q) (x .n)
+jacobian ten xs x = J10 xs (x .p) (x .q) (x .r)
 
--- "for kind 8, A11 is the stated centre and both are taken fourfold"
+-- "for kind 8, A11 is the stated centre and both are taken fourfold"; "4w²·X_ξ" and "4w²·X_η" (02, Ask 11)
 abbrev pub fold : Kind → ℕ
 fold six = 1
 fold eight = 4
 fold nine = 1
+fold ten = 4
 
 abbrev pub factor : (k : Kind) → Place k → ℕ
 factor k x = fold k * fold k * weightOf k x

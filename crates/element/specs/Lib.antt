@@ -4,6 +4,8 @@ pub mod Places
 pub mod Plane
 pub mod Nodes
 pub mod Centre
+pub mod Cubic
+pub mod Lagrange
 pub mod Jacobian
 pub mod Control
 pub mod Paper

@@ -5,10 +5,12 @@
 --   Accepted o       == no fault of the order is there
 --   Coded o c        == c is the code of a call with this order: 0 when it is accepted
 --   Beyond n xs, Astray n xs == some number is beyond n; xs is not within n, neither as it stands nor from the first node
---   NotKind n, AboveLevel k l, WrongLength n xs, Outside k xs, Collapsed k xs, ShortRoom k room == the faults of an element
+--   NotStored n, NotKind n, AboveLevel k l, WrongLength n xs, Outside k xs, Collapsed k xs, ShortRoom k room == the faults of an element
 --   nodeCodes k xs o == what is asked of an element's nodes, wherever they stand: 4, then 21; and then the order o
 --   elementCodes n xs o == what is asked of a coordinate list, and then the order o
---   controlCodes, boundsCodes, verdictCodes == the orders of the calls
+--   levelCodes n l xs == a level limit, and a coordinate list
+--   controlCodes, boundsCodes, verdictCodes == the orders of the calls that take every kind
+--   storedCodes == the order of an element that is to go into a block, and of one with a proof sheet
 -- Definitions only.
 use mathlib.Core.Path.{_≡_}
 use mathlib.Core.List.{List}
@@ -16,7 +18,7 @@ use mathlib.Core.Logic.{_⊎_}
 use Prim.Native.Nat.{ℕ, _*_, _<_}
 use lib.IntN.{ℤ, natAbs}
 use lib.ListN.{length}
-use Rattle.element.specs.Kinds.{Kind, kindOf, NotKind, coordinateLimit, greatestLevel, valueCount}
+use Rattle.element.specs.Kinds.{Kind, kindOf, NotStored, NotKind, coordinateLimit, greatestLevel, valueCount}
 use Rattle.element.specs.Control.{at}
 use Rattle.element.specs.Origin.{fromFirst, Unheld}
 use Rattle.element.specs.Corners.{Collapsed}
@@ -83,5 +85,12 @@ abbrev pub boundsCodes : ℕ → List ℤ → Codes ℕ
 boundsCodes n xs = code 1 (NotKind n) (elementCodes n xs no-more)
 
 -- "Verdict: 1, 2, 3, 4", with 21 after 4
+abbrev pub levelCodes : ℕ → ℕ → List ℤ → Codes ℕ
+levelCodes n l xs = code 2 (AboveLevel (kindOf n) l) (elementCodes n xs no-more)
+
 abbrev pub verdictCodes : ℕ → ℕ → List ℤ → Codes ℕ
-verdictCodes n l xs = code 1 (NotKind n) (code 2 (AboveLevel (kindOf n) l) (elementCodes n xs no-more))
+verdictCodes n l xs = code 1 (NotKind n) (levelCodes n l xs)
+
+-- "no other call" takes kind 10: there it is code 1
+abbrev pub storedCodes : ℕ → ℕ → List ℤ → Codes ℕ
+storedCodes n l xs = code 1 (NotStored n) (levelCodes n l xs)

@@ -1,6 +1,6 @@
 -- What the tests of a kind tell.
---   level-quad    : what is not a triangle has the greatest level of quads
---   last-kind     : a kind that is neither 6 nor 8 is 9
+--   level-quad    : what is not a triangle, of 6 nodes or of 10, has the greatest level of quads
+--   last-kind     : a kind that is none of 6, 8 and 10 is 9
 --   long-of, kind-long : a list that is not of a wrong length has two numbers a node
 --   listed-inside, accepted-inside : an accepted element has its coordinates within its limit, as they stand or from the first node
 -- Assumes nothing.
@@ -19,15 +19,15 @@ use Rattle.element.specs.Refusals.{Accepted, WrongLength, Outside, boundsCodes}
 use Rattle.element.proofs.Origin.{node-count}
 use Rattle.element.proofs.Ranges.{inside-ranged}
 
-pub last-kind : (n : ℕ) → ¬ NotKind n → ¬ (n ≡ 6) → ¬ (n ≡ 8) → n ≡ 9
-last-kind n f g h = go (ℕ-discrete n 9)
+pub last-kind : (n : ℕ) → ¬ NotKind n → ¬ (n ≡ 6) → ¬ (n ≡ 8) → ¬ (n ≡ 10) → n ≡ 9
+last-kind n f g h t = go (ℕ-discrete n 9)
   where
     go : Dec (n ≡ 9) → n ≡ 9
     go (yes e) = e
-    go (no e) = absurd (f (g, h, e))
+    go (no e) = absurd (f ((g, h, e), t))
 
-pub level-quad : (n : ℕ) → ¬ (n ≡ 6) → 4 ≡ greatestLevel (kindOf n)
-level-quad n h = rw (ne-eqb n 6 h) (either (eqb n 8))
+pub level-quad : (n : ℕ) → ¬ (n ≡ 6) → ¬ (n ≡ 10) → 4 ≡ greatestLevel (kindOf n)
+level-quad n h t = rw (ne-eqb n 6 h, ne-eqb n 10 t) (either (eqb n 8))
   where
     either : (b : Bool) → 4 ≡ greatestLevel (cond b eight nine)
     either true = refl

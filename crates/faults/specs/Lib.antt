@@ -1,2 +1,2 @@
 -- What the code computes on its way.
-pub mod Quads
+pub mod Nodes

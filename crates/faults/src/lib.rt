@@ -6,15 +6,24 @@ ghost use mathlib.Core.Bool.{true, false};
 ghost use mathlib.Core.List.{[], _∷_};
 ghost use Prim.Native.Nat.{_+_, _*_, _<_};
 ghost use lib.ListN.{length};
-ghost use Rattle.element.specs.Kinds.{six, NotKind, kindOf, greatestLevel};
+ghost use Rattle.element.specs.Kinds.{NotStored, NotKind, kindOf, greatestLevel};
 ghost use Rattle.element.specs.Corners.{SamePlace, SameTwo};
-ghost use Rattle.faults.specs.Quads.{quadCodes};
-ghost use Rattle.element.specs.Refusals.{no-more, Coded, nodeCodes, elementCodes, boundsCodes, verdictCodes};
+ghost use Rattle.element.specs.Refusals.{
+  no-more,
+  Coded,
+  nodeCodes,
+  elementCodes,
+  levelCodes,
+  boundsCodes,
+  verdictCodes,
+  storedCodes,
+};
+ghost use Rattle.faults.specs.Nodes.{cornerCodes};
 
-// Whether there is a kind of that many nodes.
-pub fn known(kind: u8) -> bool
-    ensures yes { λ r. ⌜ (r ≡ true → ¬ NotKind kind) ⌝ }
-    ensures no { λ r. ⌜ (r ≡ false → NotKind kind) ⌝ }
+// Whether a block holds elements of that many nodes.
+pub fn stored(kind: u8) -> bool
+    ensures yes { λ r. ⌜ (r ≡ true → ¬ NotStored kind) ⌝ }
+    ensures no { λ r. ⌜ (r ≡ false → NotStored kind) ⌝ }
 {
     if kind == 6 {
         return true;
@@ -25,12 +34,26 @@ pub fn known(kind: u8) -> bool
     kind == 9
 }
 
+// Whether there is a kind of that many nodes.
+fn known(kind: u8) -> bool
+    ensures yes { λ r. ⌜ (r ≡ true → ¬ NotKind kind) ⌝ }
+    ensures no { λ r. ⌜ (r ≡ false → NotKind kind) ⌝ }
+{
+    if stored(kind) {
+        return true;
+    }
+    kind == 10
+}
+
 // The greatest level of the kind.
 pub fn greatest_level(kind: u8) -> u8
     ensures { λ r. ⌜ r ≡ greatestLevel (kindOf kind) ⌝ }
 {
     if kind == 6 {
         return 10;
+    }
+    if kind == 10 {
+        return 5;
     }
     4
 }
@@ -87,11 +110,11 @@ fn four(coords: &[i32], a: usize, b: usize, c: usize, d: usize) -> bool
 }
 
 // Code 4 or 21, or 0, of a triangle's nodes. Each limit stands in a call, so that none is looked up for a coordinate.
-fn triangle_code(coords: &[i32]) -> u8
-    requires { ⌜ length (now coords) ≡ 12 ⌝ }
-    ensures { λ r. ⌜ Coded (nodeCodes six (now (coords .entry)) no-more) r ⌝ }
+fn triangle_code(coords: &[i32], limit: u32) -> u8
+    requires { ⌜ (limit < 2147483648) × (5 < length (now coords)) ⌝ }
+    ensures { λ r. ⌜ Coded (cornerCodes limit (0 ∷ 1 ∷ 2 ∷ []) (now (coords .entry))) r ⌝ }
 {
-    if !ranged(coords, 65536) {
+    if !ranged(coords, limit) {
         return 4;
     }
     if three(coords, 0, 1, 2) {
@@ -103,7 +126,7 @@ fn triangle_code(coords: &[i32]) -> u8
 // The same of a quad's nodes, whose corners are 0, 2, c and d.
 fn quad_code(coords: &[i32], c: usize, d: usize) -> u8
     requires { ⌜ (2 < c) × (c < d) × (2 * d + 1 < length (now coords)) ⌝ }
-    ensures { λ r. ⌜ Coded (quadCodes (now (coords .entry)) c d) r ⌝ }
+    ensures { λ r. ⌜ Coded (cornerCodes 2048 (0 ∷ 2 ∷ c ∷ d ∷ []) (now (coords .entry))) r ⌝ }
 {
     if !ranged(coords, 2048) {
         return 4;
@@ -120,10 +143,13 @@ pub fn node_code(kind: u8, coords: &[i32]) -> u8
     ensures { λ r. ⌜ Coded (nodeCodes (kindOf kind) (now (coords .entry)) no-more) r ⌝ }
 {
     if kind == 6 {
-        return triangle_code(coords);
+        return triangle_code(coords, 65536);
     }
     if kind == 8 {
         return quad_code(coords, 5, 7);
+    }
+    if kind == 10 {
+        return triangle_code(coords, 1024);
     }
     quad_code(coords, 6, 8)
 }
@@ -152,6 +178,17 @@ pub fn element_code(kind: u8, coords: &[i32]) -> u8
     list_code(kind, coords)
 }
 
+// Code 2, 3, 4 or 21, or 0.
+fn level_code(kind: u8, limit: u8, coords: &[i32]) -> u8
+    requires { ⌜ ¬ NotKind kind ⌝ }
+    ensures { λ r. ⌜ Coded (levelCodes kind limit (now (coords .entry))) r ⌝ }
+{
+    if greatest_level(kind) < limit {
+        return 2;
+    }
+    list_code(kind, coords)
+}
+
 // Code 1, 2, 3, 4 or 21, or 0.
 pub fn verdict_code(kind: u8, limit: u8, coords: &[i32]) -> u8
     ensures { λ r. ⌜ Coded (verdictCodes kind limit (now (coords .entry))) r ⌝ }
@@ -159,8 +196,15 @@ pub fn verdict_code(kind: u8, limit: u8, coords: &[i32]) -> u8
     if !known(kind) {
         return 1;
     }
-    if greatest_level(kind) < limit {
-        return 2;
+    level_code(kind, limit, coords)
+}
+
+// The same of an element that is to go into a block.
+pub fn stored_code(kind: u8, limit: u8, coords: &[i32]) -> u8
+    ensures { λ r. ⌜ Coded (storedCodes kind limit (now (coords .entry))) r ⌝ }
+{
+    if !stored(kind) {
+        return 1;
     }
-    list_code(kind, coords)
+    level_code(kind, limit, coords)
 }

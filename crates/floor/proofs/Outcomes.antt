@@ -34,7 +34,7 @@ use Rattle.verdict.specs.Calls.{VerdictOf, Settled, MilderCall, SternerCall}
 use Rattle.verdict.specs.declared.Word.the-variants.{Valid, Invalid, Undecided}
 use Rattle.verdict.specs.declared.Judged.{Judged}
 use Rattle.verdict.proofs.Judging as told
-use Rattle.verdict.proofs.Answers.{kind-six}
+use Rattle.element.proofs.Numbers.{kind-six}
 use Rattle.verdict.proofs.Outcomes.{verdict-unique}
 use Rattle.floor.specs.declared.Profile.{Profile}
 use Rattle.floor.specs.declared.Profile.the-variants.{Plain, Floor}

@@ -35,7 +35,7 @@ percent p f g (inl h) = f h
 percent p f g (inr h) = g h
 
 pub small : (n : ℕ) (xs : List ℤ) → n ≡ 6 → ¬ WrongLength n xs → ¬ Outside (kindOf n) xs → Inside six xs
-small n xs e g h = subst (λ m. Inside (kindOf m) xs) e (listed-inside n xs (λ f. f .0 e) g h)
+small n xs e g h = subst (λ m. Inside (kindOf m) xs) e (listed-inside n xs (λ f. f .0 .0 e) g h)
 
 pub record Parts (n l : ℕ) (xs : List ℤ) (p : ℕ) : Type 0 where
   pub kind : n ≡ 6
@@ -73,7 +73,7 @@ module _ (n l : ℕ) (xs : List ℤ) (p : ℕ) where
   pub accepted-plain : (m : ℕ) → m ≤ 10 → Accepted (floorCodes n l xs p) → Accepted (verdictCodes n m xs)
   accepted-plain m c a =
       let (k, (b, (f, (g, (d, u))))) = a in
-      ((λ x. k (x .0)), (below (six-of n k), (f, (g, (d, tt)))))
+      ((λ x. k (x .0 .0)), (below (six-of n k), (f, (g, (d, tt)))))
     where
       below : n ≡ 6 → ¬ AboveLevel (kindOf n) m
       below e = rw e (not-above c)

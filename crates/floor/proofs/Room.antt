@@ -15,13 +15,14 @@ use lib.IntN.{ℤ, pos, _-ℤ_, _*ℤ_}
 use Rattle.algebra.specs.Within.{Within, Each}
 use Rattle.algebra.proofs.Within.{within-pos, within--, within-*, within-≤, each-of, each-≤, each-as}
 use Rattle.algebra.proofs.Fill.{length-listTo, getD-listTo}
+use Rattle.forms.specs.Triangles as T
 use Rattle.element.specs.Kinds.{six}
 use Rattle.element.specs.Control.{at, values6, controlValues}
 use Rattle.element.specs.Origin.{fromFirst, Ranged, Inside}
 use Rattle.element.proofs.Sizes.{values-size}
 use Rattle.element.proofs.Origin.{inside-first}
-use Rattle.points.specs.Points.{Nine, coordinates, across}
-use Rattle.points.proofs.Points.{coordinates-nine}
+use Rattle.points.specs.Points.{Ten, coordinates, across}
+use Rattle.points.proofs.Points.{coordinates-ten}
 use Rattle.walks.specs.Room.{cap}
 use Rattle.triangle_walk.specs.Walks as walks
 use Rattle.triangle_walk.proofs.Places.{room-of}
@@ -50,8 +51,8 @@ straight-small {xs} p = go (p .range)
     go (inl h) = near-small h
     go (inr h) = subst (Within 34359738368) (straight-moved (at xs 0) (at xs 1) xs (p .long)) (near-small h)
 
-pub nine-wide : {xs : List ℤ} → Inside six xs → (a : ℕ) → Nine 786432 (coordinates (fromFirst xs) 9 a)
-nine-wide p a = let q = coordinates-nine (inside-first p) 9 a in record { long = q .long; each = each-≤ (q .each) (lit≤ tt) }
+pub ten-wide : {xs : List ℤ} → Inside six xs → (a : ℕ) → Ten 786432 (coordinates (fromFirst xs) 9 a)
+ten-wide p a = let q = coordinates-ten (inside-first p) 9 a in record { long = q .long; each = each-≤ (q .each) (lit≤ tt) }
 
 pub share-small : {xs : List ℤ} (p : ℕ) → p ≤ 99 → Inside six xs → Within 6803228196864 (pos 2 *ℤ share p xs)
 share-small p h e = within-* (within-pos 2) (within-* (within-≤ (within-pos p) h) (straight-small e))
@@ -80,5 +81,5 @@ cap-seven : 178601920036864 ≤ cap 4 7
 unfolding cap
 cap-seven = lit≤ tt
 
-pub floor-room : (n : ℕ) {c v : List ℤ} {less : ℤ} → n ≤ 7 → Room c less → v ≡ shiftedBy less c → walks.Room n 0 0 0 true v
-floor-room n {v = v} h r e = room-of n 7 v h (lit≤ tt) (each-≤ (each-as e (shifted-small r)) cap-seven)
+pub floor-room : (n : ℕ) {c v : List ℤ} {less : ℤ} → n ≤ 7 → Room c less → v ≡ shiftedBy less c → walks.Room T.six n 0 0 0 true v
+floor-room n {v = v} h r e = room-of T.six n 7 v h (lit≤ tt) (each-≤ (each-as e (shifted-small r)) cap-seven)

@@ -1,6 +1,6 @@
 -- Two lists of stored values with the same value at all points are the same list.
 --   stored-only      : for every shape whose values are readable
---   six-readable, quad-readable : those of the quadratic triangle and of the quad are
+--   six-readable, ten-readable, quad-readable : those of the triangles and of the quad are
 -- Assumes nothing.
 use mathlib.Core.Path.{_≡_, refl, sym, _∙_, ap, ap₂, subst}
 use mathlib.Core.Bool.{_&&_}
@@ -18,7 +18,7 @@ use Rattle.algebra.proofs.Order.{0<pos, *ℤ-cancel}
 use Rattle.forms.specs.Rows.{Row, _⊕_, _⊙_, total, weigh, unit}
 use Rattle.forms.specs.Cells.{dot, coeffs, same}
 use Rattle.forms.specs.Shapes.{Shape, spread, scaled, Heavy, Point}
-use Rattle.forms.specs.Triangles.{six}
+use Rattle.forms.specs.Triangles.{six, ten}
 use Rattle.forms.specs.Quads.{quad}
 use Rattle.forms.specs.Polar.{Weighted, Both, probes, orders, heavy, arePoints, readings, readsOne, readsFrom, readable}
 use Rattle.forms.proofs.Rows.{weigh-⊕, weigh-⊙, weigh-unit}
@@ -97,6 +97,9 @@ module _ (S : Shape) (a b : List ℤ) (agree : (ws : List Row) → Point S ws �
 
 pub six-readable : T (readable six)
 six-readable = tt
+
+pub ten-readable : T (readable ten)
+ten-readable = tt
 
 pub quad-readable : T (readable quad)
 quad-readable = tt

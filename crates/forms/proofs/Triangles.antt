@@ -1,17 +1,18 @@
--- Triangles of any degree are lawful shapes, and the quadratic one is.
+-- Triangles of any degree are lawful shapes, and the quadratic and the cubic one are.
 --   split3           : weights that add up to 2h are weights of one of the quarters that add up to h
 --   triangle-lawful  : the shape of a triangle is lawful if its tables pass their tests
---   six-lawful       : the quadratic triangle's does
+--   six-lawful, ten-lawful : the quadratic triangle's and the cubic one's do
+--   fifteen-at       : of fifteen things f I J K stands in the row of K at J
 --   quarter-at-V0    : 01's quarter at V0, value by value
 -- Assumes nothing.
-use mathlib.Core.Path.{_≡_, refl, sym, _∙_, ap, subst₂}
+use mathlib.Core.Path.{_≡_, refl, sym, _∙_, ap, subst, subst₂}
 use mathlib.Core.List.{List, [], _∷_, map}
 use Prim.Native.Nat.{ℕ, zero, suc, _+_, _*_, _-_, _^_, _≤_, _<_}
 use native.Mathlib.Omega.{arith}
 use native.Mathlib.Decide.{decLe}
 use lib.Dec.{T, ltb}
 use lib.IntN.{ℤ, pos, _+ℤ_, _*ℤ_}
-use lib.ListN.{length}
+use lib.ListN.{getD, length}
 use Rattle.algebra.specs.Expr.{Expr, var, con, _⊕_, _⊖_, _⊗_, eval}
 use Rattle.algebra.specs.Normal.{vanishes}
 use Rattle.algebra.proofs.Solve.{solve}
@@ -20,7 +21,7 @@ use Rattle.forms.specs.Forms.{through}
 use Rattle.forms.specs.Cells.{dot, quarter, every, Tabled, heirs, rowsAdd}
 use Rattle.forms.specs.Cuttings.{Four, inFour, first, second, third, fourth}
 use Rattle.forms.specs.Shapes.{Shape, spread, entry, Sized, Adds, tips, Lawful}
-use Rattle.forms.specs.Triangles.{cuts, triangle, degrees6, place6, six}
+use Rattle.forms.specs.Triangles.{cuts, triangle, degrees6, place6, six, fifteen, degrees10, begin10, place10, ten}
 use Rattle.forms.proofs.Shapes.{double}
 
 abbrev row : ℕ → ℕ → ℕ → List Row
@@ -106,6 +107,39 @@ module _ (n : ℕ) (degrees : List Row) (place : List ℕ → ℕ) where
 pub six-lawful : Lawful six
 six-lawful = triangle-lawful 2 degrees6 place6 tt tt tt tt
 
+-- ---- the cubic triangle
+pub ten-lawful : Lawful ten
+ten-lawful = triangle-lawful 4 degrees10 place10 tt tt tt tt
+
+pub fifteen-at : {A : Type 0} (f : ℕ → ℕ → ℕ → A) (z : A) (I J K : ℕ) → I + J + K ≡ 4 → getD (fifteen f) (begin10 K + J) z ≡ f I J K
+fifteen-at f z I J K e =
+    subst (λ (k : ℕ). getD (fifteen f) (begin10 k + J) z ≡ f I J k) (let k : 4 - I - J ≡ K = omega arith in k)
+    (go I J (let h : I + J ≤ 4 = omega arith in h))
+  where
+    go : (I J : ℕ) → I + J ≤ 4 → getD (fifteen f) (begin10 (4 - I - J) + J) z ≡ f I J (4 - I - J)
+    go zero zero h = refl
+    go zero (suc zero) h = refl
+    go zero (suc (suc zero)) h = refl
+    go zero (suc (suc (suc zero))) h = refl
+    go zero (suc (suc (suc (suc zero)))) h = refl
+    go zero (suc (suc (suc (suc (suc J))))) h = absurd (omega arith)
+    go (suc zero) zero h = refl
+    go (suc zero) (suc zero) h = refl
+    go (suc zero) (suc (suc zero)) h = refl
+    go (suc zero) (suc (suc (suc zero))) h = refl
+    go (suc zero) (suc (suc (suc (suc J)))) h = absurd (omega arith)
+    go (suc (suc zero)) zero h = refl
+    go (suc (suc zero)) (suc zero) h = refl
+    go (suc (suc zero)) (suc (suc zero)) h = refl
+    go (suc (suc zero)) (suc (suc (suc J))) h = absurd (omega arith)
+    go (suc (suc (suc zero))) zero h = refl
+    go (suc (suc (suc zero))) (suc zero) h = refl
+    go (suc (suc (suc zero))) (suc (suc J)) h = absurd (omega arith)
+    go (suc (suc (suc (suc zero)))) zero h = refl
+    go (suc (suc (suc (suc zero)))) (suc J) h = absurd (omega arith)
+    go (suc (suc (suc (suc (suc I))))) J h = absurd (omega arith)
+
+-- ---- the quadratic triangle's formulas
 -- "4c00, c00+2c01+c11, c00+2c02+c22, 2(c00+c01), c00+c01+c02+c12, 2(c00+c02)"
 pub quarter-at-V0 : (c00 c11 c22 c01 c12 c02 : ℤ)
     → quarter (six .table first) (c00 ∷ c11 ∷ c22 ∷ c01 ∷ c12 ∷ c02 ∷ [])

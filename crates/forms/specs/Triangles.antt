@@ -3,9 +3,13 @@
 --   quarterCorners i     == the corners of quarter i, in 01's order
 --   triangle n degrees place == the shape of a triangle of degree n, its values stored in the order of these degrees
 --   six                  == the quadratic triangle's: degree 2, values c00, c11, c22, c01, c12, c02
+--   fifteen f            == f I J K for I + J + K = 4, by rising K, then rising J
+--   ten                  == the cubic triangle's: degree 4, value (I, J, K) in that order
 -- Definitions only.
+use mathlib.Core.Bool.{cond}
 use mathlib.Core.List.{List, [], _∷_, map}
-use Prim.Native.Nat.{ℕ, _-_, _^_}
+use Prim.Native.Nat.{ℕ, suc, _+_, _-_, _^_}
+use lib.Dec.{eqb}
 use lib.ListN.{getD}
 use Rattle.forms.specs.Rows.{Row}
 use Rattle.forms.specs.Forms.{pick}
@@ -74,3 +78,30 @@ place6 (k ∷ l ∷ m ∷ ms) = 6
 
 abbrev pub six : Shape
 six = triangle 2 degrees6 place6
+
+-- ---- degree 4: "listed by rising K, then rising J"
+abbrev pub fifteen {ℓ} : {A : Type ℓ} → (ℕ → ℕ → ℕ → A) → List A
+fifteen f =
+    f 4 0 0 ∷ f 3 1 0 ∷ f 2 2 0 ∷ f 1 3 0 ∷ f 0 4 0
+    ∷ f 3 0 1 ∷ f 2 1 1 ∷ f 1 2 1 ∷ f 0 3 1
+    ∷ f 2 0 2 ∷ f 1 1 2 ∷ f 0 2 2
+    ∷ f 1 0 3 ∷ f 0 1 3
+    ∷ f 0 0 4 ∷ []
+
+abbrev pub degrees10 : List Row
+degrees10 = fifteen (λ I J K. I ∷ J ∷ K ∷ [])
+
+-- how many of the indices are k
+abbrev pub count : ℕ → List ℕ → ℕ
+count k [] = 0
+count k (l ∷ ks) = cond (eqb k l) (suc (count k ks)) (count k ks)
+
+-- where the values with this K begin
+abbrev pub begin10 : ℕ → ℕ
+begin10 K = getD (0 ∷ 5 ∷ 9 ∷ 12 ∷ 14 ∷ []) K 15
+
+abbrev pub place10 : List ℕ → ℕ
+place10 ks = begin10 (count 2 ks) + count 1 ks
+
+abbrev pub ten : Shape
+ten = triangle 4 degrees10 place10

@@ -7,5 +7,6 @@ pub mod Computed
 pub mod Demands
 pub mod Eases
 pub mod Twelve
+pub mod Tens
 pub mod Corners
 pub mod Mean

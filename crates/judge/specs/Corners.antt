@@ -1,21 +1,22 @@
--- Quads that are refused for their corners alone (02, Ask 9).
---   Quad          == a kind, its coordinates and its control values
+-- Elements that are refused for their corners alone (02, Asks 9 and 11).
+--   Case          == a kind, its coordinates and its control values
 --   diagonals     == two quads whose corners 00 and 22 stand at one place
---   Spurned q     == the quad would be valid, at level 0 and with one cell, and is refused with 21, under every limit of its kind
+--   looped        == a ten-node triangle whose corners A0 and A1 stand at one place
+--   Spurned q     == the element would be valid, at level 0 and with one cell, and is refused with 21, under every limit of its kind
 --   AllSpurned qs == that, of each
 -- Definitions only.
 use mathlib.Core.Path.{_≡_}
 use mathlib.Core.List.{List, [], _∷_}
 use Prim.Native.Nat.{ℕ, _≤_}
 use lib.IntN.{ℤ, pos}
-use Rattle.element.specs.Kinds.{Kind, eight, nine, nodeCount, greatestLevel}
+use Rattle.element.specs.Kinds.{Kind, eight, nine, ten, nodeCount, greatestLevel}
 use Rattle.element.specs.Control.{controlValues}
 use Rattle.element.specs.Refusals.{Refused, verdictCodes}
 use Rattle.judge.specs.Verdict.{is-valid, Judges}
 use Rattle.judge.specs.Elements.{subject}
 use Rattle.judge.specs.Twelve.{n}
 
-pub record Quad : Type 0 where
+pub record Case : Type 0 where
   pub kind : Kind
   pub coords : List ℤ
   pub values : List ℤ
@@ -46,14 +47,31 @@ values8 =
     ∷ pos 8207568 ∷ pos 22119808 ∷ pos 18194416 ∷ pos 121726944
     ∷ pos 590544 ∷ pos 162048 ∷ pos 3997296 ∷ pos 137391840 ∷ []
 
-abbrev pub diagonals : List Quad
+abbrev pub diagonals : List Case
 diagonals = record { kind = nine; coords = nodes9; values = values9 } ∷ record { kind = eight; coords = nodes8; values = values8 } ∷ []
 
-pub record Spurned (q : Quad) : Type 0 where
+abbrev pub nodes10 : List ℤ
+nodes10 =
+    pos 1000 ∷ pos 258 ∷ pos 1000 ∷ pos 258 ∷ n 170 ∷ n 1000
+    ∷ pos 1000 ∷ pos 57 ∷ pos 984 ∷ pos 102 ∷ pos 357 ∷ pos 726 ∷ n 341 ∷ pos 1000 ∷ pos 173 ∷ n 1000 ∷ pos 829 ∷ n 1000
+    ∷ pos 569 ∷ n 200 ∷ []
+
+abbrev pub values10 : List ℤ
+values10 =
+    pos 119552544 ∷ pos 33030072 ∷ pos 20784600 ∷ pos 22297464 ∷ pos 77826960
+    ∷ pos 45446076 ∷ pos 254001636 ∷ pos 427299516 ∷ pos 686114604
+    ∷ pos 1482525504 ∷ pos 1453751928 ∷ pos 1791734040
+    ∷ pos 3697393500 ∷ pos 3165662628
+    ∷ pos 135733536 ∷ []
+
+abbrev pub looped : List Case
+looped = record { kind = ten; coords = nodes10; values = values10 } ∷ []
+
+pub record Spurned (q : Case) : Type 0 where
   pub formed : controlValues (q .kind) (q .coords) ≡ q .values
   pub valid : (L : ℕ) → Judges (subject (q .kind) (q .coords)) L (is-valid 0 1)
   pub refused : (L : ℕ) → L ≤ greatestLevel (q .kind) → Refused (verdictCodes (nodeCount (q .kind)) L (q .coords)) 21
 
-abbrev pub AllSpurned : List Quad → Type 0
+abbrev pub AllSpurned : List Case → Type 0
 AllSpurned [] = Unit {0}
 AllSpurned (q ∷ qs) = Spurned q × AllSpurned qs

@@ -4,4 +4,5 @@ pub mod Faithful
 pub mod Elements
 pub mod Eases
 pub mod Twelve
+pub mod Tens
 pub mod Corners

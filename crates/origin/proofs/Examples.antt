@@ -20,7 +20,8 @@ use Rattle.forms.specs.Rows.{weigh}
 use Rattle.forms.specs.Forms.{value}
 use Rattle.forms.specs.Shapes.{scaled}
 use Rattle.forms.specs.Cuttings.{leaves, level, opens, greedy}
-use Rattle.element.specs.Kinds.{Kind, six, eight, nine, nodeCount, kindOf, coordinateLimit, greatestLevel}
+use Rattle.element.specs.Kinds.{Kind, six, eight, nine, ten, nodeCount, kindOf, coordinateLimit, greatestLevel}
+use Rattle.element.specs.Cubic.{value10, values10}
 use Rattle.element.specs.Control.{at, values6, value as controlValue, controlValues}
 use Rattle.element.specs.Origin.{fromFirst, Ranged, Held}
 use Rattle.element.specs.Corners.{Collapsed}
@@ -47,7 +48,9 @@ pub box-nodes : (box six (pos 10) (pos 20) 6 8
     ≡ pos 10 ∷ pos 20 ∷ pos 13 ∷ pos 20 ∷ pos 16 ∷ pos 20 ∷ pos 10 ∷ pos 24 ∷ pos 16 ∷ pos 24 ∷ pos 10 ∷ pos 28 ∷ pos 13 ∷ pos 28 ∷ pos 16 ∷ pos 28 ∷ [])
     × (box nine (pos 10) (pos 20) 6 8
     ≡ pos 10 ∷ pos 20 ∷ pos 13 ∷ pos 20 ∷ pos 16 ∷ pos 20 ∷ pos 10 ∷ pos 24 ∷ pos 13 ∷ pos 24 ∷ pos 16 ∷ pos 24 ∷ pos 10 ∷ pos 28 ∷ pos 13 ∷ pos 28 ∷ pos 16 ∷ pos 28 ∷ [])
-box-nodes = (refl, refl, refl)
+    × (box ten (pos 10) (pos 20) 6 9
+    ≡ pos 10 ∷ pos 20 ∷ pos 16 ∷ pos 20 ∷ pos 10 ∷ pos 29 ∷ pos 12 ∷ pos 20 ∷ pos 14 ∷ pos 20 ∷ pos 14 ∷ pos 23 ∷ pos 12 ∷ pos 26 ∷ pos 10 ∷ pos 26 ∷ pos 10 ∷ pos 23 ∷ pos 12 ∷ pos 23 ∷ [])
+box-nodes = (refl, refl, refl, refl)
 
 abbrev n : ℕ → ℤ
 n m = negℤ (pos m)
@@ -69,15 +72,26 @@ pub ends-of : (k : Kind) → let c = coordinateLimit k in
 ends-of six = refl
 ends-of eight = refl
 ends-of nine = refl
+ends-of ten = refl
 
 -- ---- tests that compute
 abbrev ofAll : (Kind → Bool) → Bool
-ofAll f = f six && (f eight && f nine)
+ofAll f = f six && (f eight && (f nine && f ten))
 
 each-kind : (f : Kind → Bool) → T (ofAll f) → (k : Kind) → T (f k)
-each-kind f t six = T-and (f six) (f eight && f nine) t .0
-each-kind f t eight = T-and (f eight) (f nine) (T-and (f six) (f eight && f nine) t .1) .0
-each-kind f t nine = T-and (f eight) (f nine) (T-and (f six) (f eight && f nine) t .1) .1
+each-kind f t = go
+  where
+    others : T (f eight && (f nine && f ten))
+    others = T-and (f six) (f eight && (f nine && f ten)) t .1
+
+    last : T (f nine && f ten)
+    last = T-and (f eight) (f nine && f ten) others .1
+
+    go : (k : Kind) → T (f k)
+    go six = T-and (f six) (f eight && (f nine && f ten)) t .0
+    go eight = T-and (f eight) (f nine && f ten) others .0
+    go nine = T-and (f nine) (f ten) last .0
+    go ten = T-and (f nine) (f ten) last .1
 
 abbrev sized : Kind → List ℤ → Bool
 sized k xs = eqb (length xs) (2 * nodeCount k)
@@ -136,10 +150,10 @@ module _ (lists : Kind → List ℤ) where
   abbrev Settles : Kind → Type 0
   Settles k = verdict (subject k (lists k)) 0 ≡ is-valid 0 1
 
-  valid-boxes : T (ofAll good) → Settles six → Settles eight → Settles nine
+  valid-boxes : T (ofAll good) → Settles six → Settles eight → Settles nine → Settles ten
       → (l : ℕ) (k : Kind) → l ≤ greatestLevel k
       → Only (VerdictOf (nodeCount k) l (lists k)) (given (is-valid 0 1))
-  valid-boxes t a b c l k h =
+  valid-boxes t a b c d l k h =
       let (u, v) = T-and (sized k (lists k)) (allHeld (lists k) && (rangedBy k (lists k) && not (merged k (lists k)))) (each-kind good t k) in
       let (w, q) = T-and (allHeld (lists k)) (rangedBy k (lists k) && not (merged k (lists k))) v in
       let (x, y) = T-and (rangedBy k (lists k)) (not (merged k (lists k))) q in
@@ -149,6 +163,7 @@ module _ (lists : Kind → List ℤ) where
       go six = a
       go eight = b
       go nine = c
+      go ten = d
 
   -- beyond the limit at place i as the list stands, and at place j from the first node
   module _ (i : ℕ) (j : Kind → ℕ) where
@@ -165,16 +180,16 @@ module _ (lists : Kind → List ℤ) where
 
 -- ---- accepted
 pub lowest-valid : (l : ℕ) (k : Kind) → l ≤ greatestLevel k → Only (VerdictOf (nodeCount k) l (lowest k)) (given (is-valid 0 1))
-unfolding verdict from inRowTold least-count cellsOf firstRow rowLow inRow low least scaled value weigh leaves level greedy opens controlValues values6 controlValue
-lowest-valid = valid-boxes lowest tt refl refl refl
+unfolding verdict from inRowTold least-count cellsOf firstRow rowLow inRow low least scaled value weigh leaves level greedy opens controlValues values6 values10 controlValue value10
+lowest-valid = valid-boxes lowest tt refl refl refl refl
 
 pub highest-valid : (l : ℕ) (k : Kind) → l ≤ greatestLevel k → Only (VerdictOf (nodeCount k) l (highest k)) (given (is-valid 0 1))
-unfolding verdict from inRowTold least-count cellsOf firstRow rowLow inRow low least scaled value weigh leaves level greedy opens controlValues values6 controlValue
-highest-valid = valid-boxes highest tt refl refl refl
+unfolding verdict from inRowTold least-count cellsOf firstRow rowLow inRow low least scaled value weigh leaves level greedy opens controlValues values6 values10 controlValue value10
+highest-valid = valid-boxes highest tt refl refl refl refl
 
 pub twice-valid : (l : ℕ) (k : Kind) → l ≤ greatestLevel k → Only (VerdictOf (nodeCount k) l (twice k)) (given (is-valid 0 1))
-unfolding verdict from inRowTold least-count cellsOf firstRow rowLow inRow low least scaled value weigh leaves level greedy opens controlValues values6 controlValue
-twice-valid = valid-boxes twice tt refl refl refl
+unfolding verdict from inRowTold least-count cellsOf firstRow rowLow inRow low least scaled value weigh leaves level greedy opens controlValues values6 values10 controlValue value10
+twice-valid = valid-boxes twice tt refl refl refl refl
 
 -- ---- refused
 pub wider-refused : (l : ℕ) (k : Kind) → l ≤ greatestLevel k → (r : Judged) → VerdictOf (nodeCount k) l (wider k) r → r ≡ refusal 4

@@ -1,6 +1,7 @@
 -- Orders of codes of a list and of the moved list, where neither has 3 or 4.
 --   list-refused, list-accepted : 21 stays, and what stands behind it counts
 --   verdict-refused, verdict-accepted : `verdict` refuses and accepts the two alike
+--   stored-accepted : and so does what takes the kinds of a block alone
 -- n is the number given as the kind, xs the coordinate list, (a, b) the vector taken from each node. Assumes nothing.
 use mathlib.Core.List.{List}
 use mathlib.Core.Logic.{inl, inr}
@@ -8,7 +9,8 @@ use Prim.Native.Nat.{ℕ}
 use lib.IntN.{ℤ}
 use Rattle.element.specs.Kinds.{NotKind, kindOf}
 use Rattle.element.specs.Origin.{movedBy}
-use Rattle.element.specs.Refusals.{Codes, no-more, Refused, Accepted, elementCodes, verdictCodes}
+use Rattle.element.specs.Refusals.{Codes, no-more, Refused, Accepted, elementCodes, levelCodes, verdictCodes, storedCodes}
+use Rattle.element.proofs.Stored.{stored-kind}
 use Rattle.element.proofs.Corners.{collapsed-moved, moved-collapsed}
 use Rattle.faults.proofs.Limits.{kind-long}
 use Rattle.origin.specs.Lists.{Sound}
@@ -34,5 +36,11 @@ module _ (n : ℕ) (xs : List ℤ) (a b : ℤ) (s : Sound n xs) (t : Sound n (mo
     verdict-refused c (inr (f, inl r)) = inr (f, inl r)
     verdict-refused c (inr (f, inr (g, r))) = inr (f, inr (g, list-refused f no-more no-more c (λ q. q) r))
 
+    level-accepted : ¬ NotKind n → Accepted (levelCodes n l xs) → Accepted (levelCodes n l ys)
+    level-accepted f (g, r) = (g, list-accepted f no-more no-more (λ q. q) r)
+
     pub verdict-accepted : Accepted (verdictCodes n l xs) → Accepted (verdictCodes n l (movedBy a b xs))
-    verdict-accepted (f, (g, r)) = (f, (g, list-accepted f no-more no-more (λ q. q) r))
+    verdict-accepted (f, r) = (f, level-accepted f r)
+
+    pub stored-accepted : Accepted (storedCodes n l xs) → Accepted (storedCodes n l (movedBy a b xs))
+    stored-accepted (f, r) = (f, level-accepted (stored-kind f) r)

@@ -15,6 +15,7 @@ use Rattle.element.specs.Jacobian.{jacobian}
 use Rattle.element.specs.Control.{controlValues}
 use Rattle.element.specs.Origin.{movedBy}
 use Rattle.element.specs.Refusals.{Codes, no-more, code, Refused, Accepted}
+use Rattle.element.proofs.Stored.{stored-kind}
 use Rattle.judge.specs.Verdict.{Answer, Passing, Valid}
 use Rattle.judge.specs.Elements.{subject, subjectBy}
 use Rattle.sheet.specs.Calls.{Shown, checkCodes, ChecksSheet, LeastCutting, NotValid, Short, writeCodes, WritesSheet}
@@ -23,7 +24,7 @@ use Rattle.sheet.specs.declared.WrittenSheet.{WrittenSheet}
 use Rattle.sheet.proofs.Checker.{check-unique}
 use Rattle.sheet.proofs.Writer.{write-unique}
 use Rattle.origin.specs.Lists.{Sound}
-use Rattle.origin.proofs.Orders.{list-refused, list-accepted, verdict-accepted}
+use Rattle.origin.proofs.Orders.{list-refused, list-accepted, stored-accepted}
 use Rattle.origin.proofs.Subjects.{valid-same}
 use Rattle.origin.proofs.Values.{element-values}
 
@@ -77,11 +78,11 @@ module _ (n l : ℕ) (xs : List ℤ) (a b : ℤ) (s : Sound n xs) (t : Sound n (
     write-refused c (inl r) = inl r
     write-refused c (inr (f, inl r)) = inr (f, inl r)
     write-refused c (inr (f, inr (g, r))) =
-        inr (f, inr (g, list-refused n xs a b s t f (later xs) (later ys) c (own-refused (kindOf n) xs ys (same f) l (length before) c) r))
+        inr (f, inr (g, list-refused n xs a b s t (stored-kind f) (later xs) (later ys) c (own-refused (kindOf n) xs ys (same (stored-kind f)) l (length before) c) r))
 
     write-accepted : Accepted (writeCodes n l xs (length before)) → Accepted (writeCodes n l ys (length before))
     write-accepted (f, (g, u)) =
-        (f, (g, list-accepted n xs a b s t f (later xs) (later ys) (own-accepted (kindOf n) xs ys (same f) l (length before)) u))
+        (f, (g, list-accepted n xs a b s t (stored-kind f) (later xs) (later ys) (own-accepted (kindOf n) xs ys (same (stored-kind f)) l (length before)) u))
 
     write-as : (r : WrittenSheet) (o : List ℕ) → WritesSheet n l xs before r o → WritesSheet n l ys before r o
     write-as r o (inl q) = inl (record { refused = write-refused (r .code) (q .refused); zeros = q .zeros; untouched = q .untouched })
@@ -89,7 +90,7 @@ module _ (n l : ℕ) (xs : List ℤ) (a b : ℤ) (s : Sound n xs) (t : Sound n (
         inr (record {
           accepted = write-accepted (q .accepted);
           cutting = q .cutting;
-          least = least-as (kindOf n) xs ys (same (q .accepted .0)) l (q .cutting) (q .least);
+          least = least-as (kindOf n) xs ys (same (stored-kind (q .accepted .0))) l (q .cutting) (q .least);
           answer = q .answer;
           filled = q .filled;
         })
@@ -106,18 +107,18 @@ module _ (n l : ℕ) (xs : List ℤ) (a b : ℤ) (s : Sound n xs) (t : Sound n (
     check-refused : (c : ℕ) → Refused (checkCodes n l xs m) c → Refused (checkCodes n l ys m) c
     check-refused c (inl r) = inl r
     check-refused c (inr (f, inl r)) = inr (f, inl r)
-    check-refused c (inr (f, inr (g, r))) = inr (f, inr (g, list-refused n xs a b s t f (last xs) (last ys) c go r))
+    check-refused c (inr (f, inr (g, r))) = inr (f, inr (g, list-refused n xs a b s t (stored-kind f) (last xs) (last ys) c go r))
       where
         go : Refused (last xs) c → Refused (last ys) c
-        go (inl (h, q)) = inl ((λ p. h (shown-as (kindOf n) ys xs (sym (same f)) p)), q)
+        go (inl (h, q)) = inl ((λ p. h (shown-as (kindOf n) ys xs (sym (same (stored-kind f))) p)), q)
         go (inr (h, q)) = absurd q
 
     check-as : (r : CheckedSheet) → ChecksSheet n l xs m r → ChecksSheet n l ys m r
     check-as r (inl q) = inl (record { refused = check-refused (r .code) (q .refused); zeros = q .zeros })
     check-as r (inr q) =
         inr (record {
-          accepted = verdict-accepted n xs a b s t l (q .accepted);
-          shown = shown-as (kindOf n) xs ys (same (q .accepted .0)) (q .shown);
+          accepted = stored-accepted n xs a b s t l (q .accepted);
+          shown = shown-as (kindOf n) xs ys (same (stored-kind (q .accepted .0))) (q .shown);
           answer = q .answer;
         })
 

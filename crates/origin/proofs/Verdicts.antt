@@ -75,11 +75,11 @@ module _ (n l : ℕ) (xs : List ℤ) (p : ℕ) (a b : ℤ) (s : Sound n xs) (t :
   floor-refused c (inr (f, inl r)) = inr (f, inl r)
   floor-refused c (inr (f, inr (g, r))) =
       let e = six-of n f in
-      inr (f, inr (g, list-refused n xs a b s t (λ k. k .0 e) (own xs) (own zs) c (own-refused e c) r))
+      inr (f, inr (g, list-refused n xs a b s t (λ k. k .0 .0 e) (own xs) (own zs) c (own-refused e c) r))
 
   floor-accepted : Accepted (floorCodes n l xs p) → Accepted (floorCodes n l zs p)
   floor-accepted (f, (g, u)) =
-      let e = six-of n f in (f, (g, list-accepted n xs a b s t (λ k. k .0 e) (own xs) (own zs) (own-accepted e) u))
+      let e = six-of n f in (f, (g, list-accepted n xs a b s t (λ k. k .0 .0 e) (own xs) (own zs) (own-accepted e) u))
 
   floor-as : (r : Judged) → FloorOf n l xs p r → FloorOf n l zs p r
   floor-as r (inl q) = inl (record { refused = floor-refused (r .code) (q .refused); zeros = q .zeros })

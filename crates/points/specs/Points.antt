@@ -1,8 +1,8 @@
 -- Numbers of the nodes, and of the control points, along one coordinate, as the code keeps them.
---   Nine n l         == l has nine numbers, each within n
+--   Ten n l         == l has ten numbers, each within n
 --   less xs k z      == the number at place k minus z; past the end stands 0
 --   place g k        == the place of node k among nodes with a gap: from g on, nodes stand one earlier
---   coordinates xs g a == the coordinates of nine nodes along x (a = 0) or y (a = 1)
+--   coordinates xs g a == the coordinates of nine nodes along x (a = 0) or y (a = 1), and 0
 --   step p a b       == the difference from the point a to the point b, along one coordinate
 --   point u v k      == the point k, from the points u along x and v along y
 --   across u v a b c d == det of the differences from a to b and from c to d
@@ -19,8 +19,8 @@ use Rattle.algebra.specs.Fill.{listTo}
 use Rattle.element.specs.Plane.{Vec, _-ᵥ_, det}
 use Rattle.element.specs.Control.{at}
 
-pub record Nine (n : ℕ) (l : List ℤ) : Type 0 where
-  pub long : length l ≡ 9
+pub record Ten (n : ℕ) (l : List ℤ) : Type 0 where
+  pub long : length l ≡ 10
   pub each : Each n l
 
 abbrev pub less : List ℤ → ℕ → ℤ → ℤ
@@ -30,7 +30,7 @@ abbrev pub place : ℕ → ℕ → ℕ
 place g k = cond (ltb k g) k (k - 1)
 
 abbrev pub coordinates : List ℤ → ℕ → ℕ → List ℤ
-coordinates xs g a = listTo 9 (λ k. at xs (2 * place g k + a))
+coordinates xs g a = listTo 10 (λ k. cond (ltb k 9) (at xs (2 * place g k + a)) (pos 0))
 
 -- ---- differences
 abbrev pub step : List ℤ → ℕ → ℕ → ℤ

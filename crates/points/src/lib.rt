@@ -25,7 +25,7 @@ pub fn coord(xs: &[i32], k: usize) -> i64
 }
 
 // The coordinate at place k minus a number, which takes 33 bits; past the end stands 0.
-fn less(xs: &[i32], k: usize, from: i64) -> i64
+pub fn less(xs: &[i32], k: usize, from: i64) -> i64
     requires { ⌜ Within 2147483648 from ⌝ }
     ensures value { λ r. ⌜ r ≡ spec.less (now (xs .entry)) k from ⌝ }
     ensures held { λ r. ⌜ Held (at (now (xs .entry)) k) ⌝ }
@@ -58,19 +58,20 @@ fn place(gap: usize, k: usize) -> usize
     k - 1
 }
 
-// The first or the second coordinates of nine nodes, from the first one.
-pub fn coordinates(xs: &[i32], gap: usize, axis: usize) -> [i64; 9]
+// The first or the second coordinates of nine nodes, from the first one; a tenth place, which ten nodes need, has 0.
+pub fn coordinates(xs: &[i32], gap: usize, axis: usize) -> [i64; 10]
     requires { ⌜ (0 < gap) × (axis < 2) ⌝ }
     ensures { λ r. ⌜ r ≡ spec.coordinates (fromFirst (now (xs .entry))) gap axis ⌝ }
 {
     let from = coord(xs, axis);
-    let mut c = [0; 9];
+    let mut c = [0; 10];
     let mut k = 0;
     while k < 9 {
         let at = place(gap, k);
         c[k] = less(xs, 2 * at + axis, from);
         k += 1;
     }
+    c[9] = 0;
     c
 }
 
@@ -125,19 +126,19 @@ pub fn ranged(xs: &[i32], limit: u32) -> bool
 }
 
 // The number at place k; past the end stands 0.
-pub fn pick(p: &[i64; 9], k: usize) -> i64
-    requires { ⌜ length (now p) ≡ 9 ⌝ }
+pub fn pick(p: &[i64; 10], k: usize) -> i64
+    requires { ⌜ length (now p) ≡ 10 ⌝ }
     ensures { λ r. ⌜ r ≡ at (now (p .entry)) k ⌝ }
 {
-    if k < 9 {
+    if k < 10 {
         return p[k];
     }
     0
 }
 
 // The difference from the point a to the point b, along one coordinate.
-pub fn step(p: &[i64; 9], a: usize, b: usize) -> i64
-    requires { ⌜ spec.Nine 786432 (now p) ⌝ }
+pub fn step(p: &[i64; 10], a: usize, b: usize) -> i64
+    requires { ⌜ spec.Ten 786432 (now p) ⌝ }
     ensures { λ r. ⌜ r ≡ spec.step (now (p .entry)) a b ⌝ }
 {
     pick(p, b) - pick(p, a)
@@ -152,9 +153,9 @@ pub fn det(a: i64, b: i64, c: i64, d: i64) -> i64
 }
 
 // The determinant of the differences from a to b and from c to d, of the points with the coordinates x and y.
-pub fn across(x: &[i64; 9], y: &[i64; 9], a: usize, b: usize, c: usize, d: usize) -> i64
-    requires first { ⌜ spec.Nine 786432 (now x) ⌝ }
-    requires second { ⌜ spec.Nine 786432 (now y) ⌝ }
+pub fn across(x: &[i64; 10], y: &[i64; 10], a: usize, b: usize, c: usize, d: usize) -> i64
+    requires first { ⌜ spec.Ten 786432 (now x) ⌝ }
+    requires second { ⌜ spec.Ten 786432 (now y) ⌝ }
     ensures { λ r. ⌜ r ≡ spec.across (now (x .entry)) (now (y .entry)) a b c d ⌝ }
 {
     det(step(x, a, b), step(y, a, b), step(x, c, d), step(y, c, d))

@@ -21,7 +21,7 @@ use Rattle.element.specs.Origin.{fromFirst, Inside}
 use Rattle.element.proofs.Origin.{values-first}
 use Rattle.element.specs.Control.{at, value, controlValues}
 use Rattle.element.specs.Paper.{relation27}
-use Rattle.points.specs.Points.{Nine, coordinates}
+use Rattle.points.specs.Points.{Ten, coordinates}
 use Rattle.quad.specs.Points.{quadKind, gap, points9, grid, sums9, combine9}
 use Rattle.quad.proofs.Binomials.{ninth-is}
 use Rattle.quad.proofs.Terms.{place-column, place-row}
@@ -32,7 +32,7 @@ unfolding value relation27
 value-sum R I J = refl
 
 -- nine times the 62 terms of `so-far-small`
-pub value-is : {u v : List ℤ} → Nine 786432 u → Nine 786432 v
+pub value-is : {u v : List ℤ} → Ten 786432 u → Ten 786432 v
     → (i j : ℕ) → i < 4
     → j < 4
     → {w : ℤ} {l : List ℤ} → w ≡ pos (9 / (choose 3 i * choose 3 j))

@@ -24,7 +24,7 @@ use Rattle.algebra.proofs.Fill.{length-listTo, getD-listTo}
 use Rattle.element.specs.Plane.{Vec, sum}
 use Rattle.element.specs.Control.{at, term}
 use Rattle.element.specs.Paper.{relation27}
-use Rattle.points.specs.Points.{Nine}
+use Rattle.points.specs.Points.{Ten}
 use Rattle.quad.specs.Points.{grid}
 use Rattle.quad.proofs.Terms.{place-column, place-row, term-elsewhere, term-small}
 
@@ -130,7 +130,7 @@ module _ (R : ℕ → ℕ → Vec) where
           ∙ added-turn i1 i2 j1 j2 k
 
 -- ---- sizes: two, six and eighteen terms inside the loops, and at most 62 in all four parts
-module _ {u v : List ℤ} (p : Nine 786432 u) (q : Nine 786432 v) where
+module _ {u v : List ℤ} (p : Ten 786432 u) (q : Ten 786432 v) where
   abbrev R : ℕ → ℕ → Vec
   R = grid u v
 

@@ -1,7 +1,7 @@
 -- The control points of a quad are small.
 --   gap-pos : the gap is not at the first node
 --   quad-first : differences from the first node are within twice the limit
---   edge-small, four-small, centre-small, points9-nine : of nodes within 4096
+--   edge-small, four-small, centre-small, points9-ten : of nodes within 4096
 -- Assumes nothing.
 use mathlib.Core.Path.{_≡_, refl}
 use mathlib.Core.Bool.{Bool, true, false}
@@ -14,7 +14,7 @@ use Rattle.algebra.proofs.Within.{within-pos, within-+, within--, within-*, wit
 use Rattle.element.specs.Control.{at}
 use Rattle.element.specs.Origin.{fromFirst, Inside}
 use Rattle.element.proofs.Origin.{inside-first}
-use Rattle.points.specs.Points.{Nine}
+use Rattle.points.specs.Points.{Ten}
 use Rattle.quad.specs.Points.{quadKind, gap, edge, four, centre, points9}
 
 pub gap-pos : (b : Bool) → 0 < gap b
@@ -25,7 +25,7 @@ pub quad-first : (b : Bool) {xs : List ℤ} → Inside (quadKind b) xs → Each 
 quad-first true p = inside-first p
 quad-first false p = inside-first p
 
-module _ {n : List ℤ} (p : Nine 4096 n) where
+module _ {n : List ℤ} (p : Ten 4096 n) where
   pub edge-small : (m a b : ℕ) → Within 49152 (edge n m a b)
   edge-small m a b =
       within-- (within-- (within-* (within-pos 8) (p .each .at m)) (within-* (within-pos 2) (p .each .at a))) (within-* (within-pos 2) (p .each .at b))
@@ -39,13 +39,13 @@ module _ {n : List ℤ} (p : Nine 4096 n) where
   centre-small false =
       within-+ (within-- (within-* (within-pos 16) (p .each .at 4)) (within-* (within-pos 4) (four-small 1 3 5 7))) (four-small 0 2 6 8)
 
-  pub points9-nine : (b : Bool) → Nine 786432 (points9 n b)
-  points9-nine b =
+  pub points9-ten : (b : Bool) → Ten 786432 (points9 n b)
+  points9-ten b =
       record {
         long = refl;
         each = each-cons (corner 0) (each-cons (side 1 0 2) (each-cons (corner 2)
             (each-cons (side 3 0 6) (each-cons (within-≤ (centre-small b) (lit≤ tt)) (each-cons (side 5 2 8)
-            (each-cons (corner 6) (each-cons (side 7 6 8) (each-cons (corner 8) each-nil))))))));
+            (each-cons (corner 6) (each-cons (side 7 6 8) (each-cons (corner 8) (each-cons (within-≤ (within-pos 0) (lit≤ tt)) each-nil)))))))));
       }
     where
       corner : (k : ℕ) → Within 786432 (pos 4 *ℤ at n k)

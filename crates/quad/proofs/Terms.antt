@@ -19,7 +19,7 @@ use Rattle.algebra.proofs.Within.{within-pos, within-*, within-≤}
 use Rattle.forms.specs.Binomials.{choose}
 use Rattle.element.specs.Plane.{Vec, _-ᵥ_, det}
 use Rattle.element.specs.Control.{α, β, term}
-use Rattle.points.specs.Points.{Nine, point}
+use Rattle.points.specs.Points.{Ten, point}
 use Rattle.points.proofs.Points.{step-small, across-small}
 use Rattle.quad.specs.declared.sum.Vector.{Vector}
 use Rattle.quad.specs.Points.{vec, grid}
@@ -45,13 +45,13 @@ module _ (R : ℕ → ℕ → Vec) (i1 i2 j1 j2 : ℕ) where
       (λ t. refl)
 
 -- twice as large
-pub vector-small : {u v : List ℤ} → Nine 786432 u → Nine 786432 v
+pub vector-small : {u v : List ℤ} → Ten 786432 u → Ten 786432 v
     → (a b : ℕ) {r : Vector} → vec r ≡ point u v b -ᵥ point u v a
     → Within 1572864 (r .x) × Within 1572864 (r .y)
 vector-small p q a b e = (rw (ap (λ (w : Vec). w .x) e) (step-small p a b), rw (ap (λ (w : Vec). w .y) e) (step-small q a b))
 
 -- four times a determinant of two such vectors
-pub term-small : {u v : List ℤ} → Nine 786432 u → Nine 786432 v
+pub term-small : {u v : List ℤ} → Ten 786432 u → Ten 786432 v
     → (I J i1 i2 j1 j2 : ℕ)
     → Within 19791209299968 (term (grid u v) I J i1 i2 j1 j2)
 term-small p q I J i1 i2 j1 j2 =

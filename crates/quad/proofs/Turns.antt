@@ -15,7 +15,7 @@ use Rattle.algebra.specs.Within.{Is}
 use Rattle.algebra.proofs.Within.{got, st, fits, i-add}
 use Rattle.element.specs.Plane.{Vec}
 use Rattle.element.specs.Control.{at, term}
-use Rattle.points.specs.Points.{Nine}
+use Rattle.points.specs.Points.{Ten}
 use Rattle.quad.specs.Points.{grid}
 use Rattle.quad.proofs.Terms.{term-small}
 use Rattle.quad.proofs.Nest.{home, so-far, so-far-store, so-far-small}
@@ -27,7 +27,7 @@ pub record Turn (R : ℕ → ℕ → Vec) (i1 i2 j1 j2 : ℕ) (l : List ℤ) (r 
   pub fits : SFits w64 (stored (home i1 i2 j1 j2) l r)
   pub next : set l (home i1 i2 j1 j2) (toZ w64 (ofZ w64 (stored (home i1 i2 j1 j2) l r))) ≡ so-far R i1 i2 j1 (j2 + 1)
 
-module _ {u v : List ℤ} (p : Nine 786432 u) (q : Nine 786432 v)
+module _ {u v : List ℤ} (p : Ten 786432 u) (q : Ten 786432 v)
     (i1 i2 j1 j2 : ℕ) (a : i1 ≤ 1) (b : i2 ≤ 2) (c : j1 ≤ 2) (d : j2 ≤ 1) {l : List ℤ} {r : ℤ}
     (e : l ≡ so-far (grid u v) i1 i2 j1 j2) (f : r ≡ term (grid u v) (i1 + i2) (j1 + j2) i1 i2 j1 j2) where
   abbrev k : ℕ

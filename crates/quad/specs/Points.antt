@@ -46,7 +46,7 @@ abbrev pub points9 : List ℤ → Bool → List ℤ
 points9 n b =
     (pos 4 *ℤ at n 0) ∷ edge n 1 0 2 ∷ (pos 4 *ℤ at n 2)
     ∷ edge n 3 0 6 ∷ centre n b ∷ edge n 5 2 8
-    ∷ (pos 4 *ℤ at n 6) ∷ edge n 7 6 8 ∷ (pos 4 *ℤ at n 8) ∷ []
+    ∷ (pos 4 *ℤ at n 6) ∷ edge n 7 6 8 ∷ (pos 4 *ℤ at n 8) ∷ pos 0 ∷ []
 
 abbrev pub grid : List ℤ → List ℤ → ℕ → ℕ → Vec
 grid u v i j = point u v (i + 3 * j)

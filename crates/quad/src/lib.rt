@@ -8,7 +8,7 @@ use points::pick;
 ghost use mathlib.Core.Path.{_≡_};
 ghost use Rattle.element.specs.Control as control;
 ghost use Rattle.element.specs.Origin.{Inside};
-ghost use Rattle.points.specs.Points.{Nine};
+ghost use Rattle.points.specs.Points.{Ten};
 ghost use Rattle.quad.specs.Points as spec;
 
 // Where the nodes have a gap: eight nodes omit 11.
@@ -22,24 +22,24 @@ fn gap(eight: bool) -> usize
 }
 
 // The fourfold control point of the edge from a to b with the middle m.
-fn edge(n: &[i64; 9], m: usize, a: usize, b: usize) -> i64
-    requires { ⌜ Nine 4096 (now n) ⌝ }
+fn edge(n: &[i64; 10], m: usize, a: usize, b: usize) -> i64
+    requires { ⌜ Ten 4096 (now n) ⌝ }
     ensures { λ r. ⌜ r ≡ spec.edge (now (n .entry)) m a b ⌝ }
 {
     8 * pick(n, m) - 2 * pick(n, a) - 2 * pick(n, b)
 }
 
 // The sum of four nodes.
-fn four(n: &[i64; 9], a: usize, b: usize, c: usize, d: usize) -> i64
-    requires { ⌜ Nine 4096 (now n) ⌝ }
+fn four(n: &[i64; 10], a: usize, b: usize, c: usize, d: usize) -> i64
+    requires { ⌜ Ten 4096 (now n) ⌝ }
     ensures { λ r. ⌜ r ≡ spec.four (now (n .entry)) a b c d ⌝ }
 {
     pick(n, a) + pick(n, b) + pick(n, c) + pick(n, d)
 }
 
 // The fourfold control point 11.
-fn centre(n: &[i64; 9], eight: bool) -> i64
-    requires { ⌜ Nine 4096 (now n) ⌝ }
+fn centre(n: &[i64; 10], eight: bool) -> i64
+    requires { ⌜ Ten 4096 (now n) ⌝ }
     ensures { λ r. ⌜ r ≡ spec.centre (now (n .entry)) eight ⌝ }
 {
     let corners = four(n, 0, 2, 6, 8);
@@ -51,8 +51,8 @@ fn centre(n: &[i64; 9], eight: bool) -> i64
 }
 
 // The fourfold control points, along one coordinate.
-fn points9(n: &[i64; 9], eight: bool) -> [i64; 9]
-    requires { ⌜ Nine 4096 (now n) ⌝ }
+fn points9(n: &[i64; 10], eight: bool) -> [i64; 10]
+    requires { ⌜ Ten 4096 (now n) ⌝ }
     ensures { λ r. ⌜ r ≡ spec.points9 (now (n .entry)) eight ⌝ }
 {
     let below = edge(n, 1, 0, 2);
@@ -70,6 +70,7 @@ fn points9(n: &[i64; 9], eight: bool) -> [i64; 9]
         4 * n[6],
         above,
         4 * n[8],
+        0,
     ]
 }
 

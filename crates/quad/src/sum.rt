@@ -13,7 +13,7 @@ ghost use Rattle.forms.specs.Binomials as binomials;
 ghost use Rattle.element.specs.Plane as plane;
 ghost use Rattle.element.specs.Plane.{_-ᵥ_};
 ghost use Rattle.element.specs.Control as control;
-ghost use Rattle.points.specs.Points.{Nine, point};
+ghost use Rattle.points.specs.Points.{Ten, point};
 ghost use Rattle.quad.specs.Points as spec;
 
 // C(n, k), for n up to 3: between its ones such a row of binomials has n itself.
@@ -38,9 +38,9 @@ struct Vector {
 }
 
 // The point b minus the point a, of the points with the coordinates x and y.
-fn difference(x: &[i64; 9], y: &[i64; 9], a: usize, b: usize) -> Vector
-    requires first { ⌜ Nine 786432 (now x) ⌝ }
-    requires second { ⌜ Nine 786432 (now y) ⌝ }
+fn difference(x: &[i64; 10], y: &[i64; 10], a: usize, b: usize) -> Vector
+    requires first { ⌜ Ten 786432 (now x) ⌝ }
+    requires second { ⌜ Ten 786432 (now y) ⌝ }
     ensures { λ r. ⌜ spec.vec r ≡ point (now (x .entry)) (now (y .entry)) b -ᵥ point (now (x .entry)) (now (y .entry)) a ⌝ }
 {
     Vector {
@@ -50,9 +50,9 @@ fn difference(x: &[i64; 9], y: &[i64; 9], a: usize, b: usize) -> Vector
 }
 
 // α(i, j) = R(i+1, j) - R(i, j).
-fn alpha(x: &[i64; 9], y: &[i64; 9], i: usize, j: usize) -> Vector
-    requires first { ⌜ Nine 786432 (now x) ⌝ }
-    requires second { ⌜ Nine 786432 (now y) ⌝ }
+fn alpha(x: &[i64; 10], y: &[i64; 10], i: usize, j: usize) -> Vector
+    requires first { ⌜ Ten 786432 (now x) ⌝ }
+    requires second { ⌜ Ten 786432 (now y) ⌝ }
     requires place { ⌜ (i ≤ 1) × (j ≤ 2) ⌝ }
     ensures { λ r. ⌜ spec.vec r ≡ control.α (spec.grid (now (x .entry)) (now (y .entry))) i j ⌝ }
 {
@@ -60,9 +60,9 @@ fn alpha(x: &[i64; 9], y: &[i64; 9], i: usize, j: usize) -> Vector
 }
 
 // β(i, j) = R(i, j+1) - R(i, j).
-fn beta(x: &[i64; 9], y: &[i64; 9], i: usize, j: usize) -> Vector
-    requires first { ⌜ Nine 786432 (now x) ⌝ }
-    requires second { ⌜ Nine 786432 (now y) ⌝ }
+fn beta(x: &[i64; 10], y: &[i64; 10], i: usize, j: usize) -> Vector
+    requires first { ⌜ Ten 786432 (now x) ⌝ }
+    requires second { ⌜ Ten 786432 (now y) ⌝ }
     requires place { ⌜ (i ≤ 2) × (j ≤ 1) ⌝ }
     ensures { λ r. ⌜ spec.vec r ≡ control.β (spec.grid (now (x .entry)) (now (y .entry))) i j ⌝ }
 {
@@ -78,9 +78,9 @@ fn det(a: Vector, b: Vector) -> i64
 }
 
 // The term C(2,i2)·C(2,j1)·det(α(i1,j1), β(i2,j2)), of value (i1+i2, j1+j2).
-fn term(x: &[i64; 9], y: &[i64; 9], i1: usize, i2: usize, j1: usize, j2: usize) -> i64
-    requires first { ⌜ Nine 786432 (now x) ⌝ }
-    requires second { ⌜ Nine 786432 (now y) ⌝ }
+fn term(x: &[i64; 10], y: &[i64; 10], i1: usize, i2: usize, j1: usize, j2: usize) -> i64
+    requires first { ⌜ Ten 786432 (now x) ⌝ }
+    requires second { ⌜ Ten 786432 (now y) ⌝ }
     requires places { ⌜ (i1 ≤ 1) × (i2 ≤ 2) × (j1 ≤ 2) × (j2 ≤ 1) ⌝ }
     ensures { λ r. ⌜ r ≡ control.term (spec.grid (now (x .entry)) (now (y .entry))) (i1 + i2) (j1 + j2) i1 i2 j1 j2 ⌝ }
 {
@@ -89,9 +89,9 @@ fn term(x: &[i64; 9], y: &[i64; 9], i1: usize, i2: usize, j1: usize, j2: usize) 
 }
 
 // The sums of relation 27, (I, J) at I + 4J: over all i1, i2, j1, j2 each term is added where I = i1+i2 and J = j1+j2.
-fn sums(x: &[i64; 9], y: &[i64; 9]) -> [i64; 16]
-    requires first { ⌜ Nine 786432 (now x) ⌝ }
-    requires second { ⌜ Nine 786432 (now y) ⌝ }
+fn sums(x: &[i64; 10], y: &[i64; 10]) -> [i64; 16]
+    requires first { ⌜ Ten 786432 (now x) ⌝ }
+    requires second { ⌜ Ten 786432 (now y) ⌝ }
     ensures { λ r. ⌜ r ≡ spec.sums9 (now (x .entry)) (now (y .entry)) ⌝ }
 {
     let mut c = [0; 16];
@@ -116,9 +116,9 @@ fn weight(i: usize, j: usize) -> i64
 }
 
 // The sixteen values, (i, j) at i + 4j: each sum times its weight.
-pub fn combine(x: &[i64; 9], y: &[i64; 9]) -> [i64; 16]
-    requires first { ⌜ Nine 786432 (now x) ⌝ }
-    requires second { ⌜ Nine 786432 (now y) ⌝ }
+pub fn combine(x: &[i64; 10], y: &[i64; 10]) -> [i64; 16]
+    requires first { ⌜ Ten 786432 (now x) ⌝ }
+    requires second { ⌜ Ten 786432 (now y) ⌝ }
     ensures { λ r. ⌜ r ≡ spec.combine9 (now (x .entry)) (now (y .entry)) ⌝ }
 {
     let s = sums(x, y);

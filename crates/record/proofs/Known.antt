@@ -16,7 +16,7 @@ use lib.Dec.{eqb}
 use lib.IntN.{ℤ, pos, negsuc, natAbs}
 use lib.ListN.{getD}
 use Rattle.algebra.specs.Within.{Each}
-use Rattle.element.specs.Kinds.{Kind, six, eight, nine, NotKind, greatestLevel}
+use Rattle.element.specs.Kinds.{Kind, six, eight, nine, ten, NotStored, greatestLevel}
 use Rattle.element.specs.Refusals.{AboveLevel}
 
 pub not-not : (m n : ℕ) → ¬ (¬ (m ≡ n)) → m ≡ n
@@ -26,7 +26,7 @@ not-not m n f = go (eqb m n) (eqb-true m n) (eqb-false m n)
     go true p q = p refl
     go false p q = absurd (f (q refl))
 
-pub known-small : (n : ℕ) → ¬ NotKind n → n ≤ 9
+pub known-small : (n : ℕ) → ¬ NotStored n → n ≤ 9
 known-small n f = go (decLe n 9)
   where
     go : Dec (n ≤ 9) → n ≤ 9
@@ -40,6 +40,7 @@ known-level k n f = N.le-trans (N.le-of-suc-le-suc (N.lt-of-not-le f)) (most k)
     most six = omega arith
     most eight = omega arith
     most nine = omega arith
+    most ten = omega arith
 
 pub each-zero : {l : List ℤ} → Each 0 l → (k : ℕ) → getD l k (pos 0) ≡ pos 0
 each-zero {l} p k = none (getD l k (pos 0)) (p .at k .size)

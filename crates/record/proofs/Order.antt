@@ -8,7 +8,7 @@ use mathlib.Core.Path.{refl}
 use mathlib.Core.List.{List}
 use mathlib.Core.Logic.{inl, inr}
 use Prim.Native.Nat.{ℕ}
-use Rattle.element.specs.Kinds.{NotKind, kindOf}
+use Rattle.element.specs.Kinds.{NotStored, kindOf}
 use Rattle.element.specs.Corners.{Collapsed}
 use Rattle.element.specs.Refusals.{Refused, Accepted, Outside}
 use Rattle.record.specs.declared.Record.{Record}
@@ -19,7 +19,7 @@ module _ (v : ℕ) (l : List ℕ) (at low : ℕ) where
   abbrev r : Record
   r = readRecord l at
 
-  module _ (a : ¬ NotKind (r .kind)) (b : ¬ TooHigh v r) (c : ¬ NotZero v r) where
+  module _ (a : ¬ NotStored (r .kind)) (b : ¬ TooHigh v r) (c : ¬ NotZero v r) where
     pub range-first : Outside (kindOf (r .kind)) (used r) → Refused (recordCodes v l at low) 4
     range-first h = inr (a, inr (b, inr (c, inl (h, refl))))
 

@@ -22,7 +22,7 @@ use lib.Dec.{eqb}
 use lib.IntN.{ℤ, pos}
 use lib.ListN.{length, getD, take, drop, replicate}
 use Rattle.algebra.specs.Fill.{listTo}
-use Rattle.element.specs.Kinds.{Kind, NotKind, kindOf}
+use Rattle.element.specs.Kinds.{Kind, NotStored, kindOf}
 use Rattle.element.specs.Corners.{Collapsed}
 use Rattle.element.specs.Refusals.{AboveLevel, Outside}
 use Rattle.endian.specs.Numbers.{bytes, number, signedBytes, signedNumber, part}
@@ -50,7 +50,7 @@ WrongSign v s d = (mostSign v < s) ⊎ ((s ≡ 0) × ¬ (d ≡ 0))
 
 pub record WellFormed (v : ℕ) (r : Record) : Type 0 where
   pub id-fits : r .id < 256 ^ 4
-  pub kind-known : ¬ NotKind (r .kind)
+  pub kind-known : ¬ NotStored (r .kind)
   pub level-allowed : ¬ AboveLevel (kindOf (r .kind)) (r .limit)
   pub nine-pairs : length (r .coords) ≡ 18
   pub inside : ¬ Outside (kindOf (r .kind)) (used r)

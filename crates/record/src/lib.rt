@@ -2,15 +2,15 @@
 use endian::get_i32;
 use endian::get_u32;
 use faults::greatest_level;
-use faults::known;
 use faults::node_code;
+use faults::stored;
 use points::within;
 ghost use mathlib.Core.Path.{_≡_};
 ghost use mathlib.Core.Bool.{true, false};
 ghost use Prim.Native.Nat.{_+_, _*_, _≤_};
 ghost use lib.ListN.{length, take, drop};
 ghost use Rattle.algebra.specs.Within.{Each};
-ghost use Rattle.element.specs.Kinds.{NotKind, kindOf};
+ghost use Rattle.element.specs.Kinds.{NotStored, kindOf};
 ghost use Rattle.element.specs.Refusals.{Beyond, no-more, Coded, nodeCodes};
 ghost use Rattle.record.specs.Record.{mostSign, readCoords, readRecord};
 ghost use Rattle.record.specs.Faults.{signCodes, recordCodes};
@@ -81,7 +81,7 @@ fn unused_zero(coords: [i32; 18], kind: u8) -> bool
 
 // The code of the kind's nodes: 4 or 21, or 0.
 fn used_code(coords: [i32; 18], kind: u8) -> u8
-    requires { ⌜ ¬ NotKind kind ⌝ }
+    requires { ⌜ ¬ NotStored kind ⌝ }
     ensures { λ c. ⌜ Coded (nodeCodes (kindOf kind) (take (2 * kind) coords) no-more) c ⌝ }
 {
     if kind == 6 {
@@ -128,7 +128,7 @@ pub fn fault(s: &[u8], at: usize, version: u32, low: u64) -> u8
     let r = read_record(s, at);
     let kind = r.kind;
     let coords = r.coords;
-    if !known(kind) {
+    if !stored(kind) {
         return 1;
     }
     if greatest_level(kind) < r.limit {

@@ -13,11 +13,12 @@ use Prim.Native.Nat.{ℕ, _≤_}
 use lib.IntN.{ℤ, pos}
 use lib.Signed.{_<ℤ_}
 use Rattle.forms.specs.Cuttings.{Cutting, leaves}
-use Rattle.element.specs.Kinds.{kindOf}
+use Rattle.element.specs.Kinds.{NotStored, kindOf}
 use Rattle.element.specs.Places.{Place}
 use Rattle.element.specs.Jacobian.{jacobian}
-use Rattle.element.specs.Refusals.{Codes, no-more, code, Refused, Accepted, verdictCodes}
+use Rattle.element.specs.Refusals.{Codes, no-more, code, Refused, Accepted, verdictCodes, storedCodes}
 use Rattle.element.proofs.Refusals.{refused-unique, refused-accepted, refused-some, past-then, accepted-then}
+use Rattle.element.proofs.Stored.{stored-accepted}
 use Rattle.judge.specs.Verdict as judge
 use Rattle.judge.specs.Elements.{subject}
 use Rattle.judge.proofs.Faithful.{element-faithful}
@@ -36,9 +37,9 @@ module _ (n l : ℕ) (xs : List ℤ) (b : List ℕ) where
   abbrev later : Codes ℕ
   later = code 20 (¬ Shown (kindOf n) l xs b) no-more
 
-  shown-clash : (c : ℕ) → Refused (checkCodes n l xs b) c → Accepted (verdictCodes n l xs) → Shown (kindOf n) l xs b → ⊥
+  shown-clash : (c : ℕ) → Refused (checkCodes n l xs b) c → Accepted (storedCodes n l xs) → Shown (kindOf n) l xs b → ⊥
   shown-clash c r a s =
-      refused-accepted (checkCodes n l xs b) c r (accepted-then (verdictCodes n l xs) later a ((λ f. f s), tt))
+      refused-accepted (checkCodes n l xs b) c r (accepted-then (storedCodes n l xs) later a ((λ f. f s), tt))
 
   pub check-unique : (r s : CheckedSheet) → ChecksSheet n l xs b r → ChecksSheet n l xs b s → r ≡ s
   check-unique r s (inl p) (inl q) =
@@ -51,14 +52,14 @@ module _ (n l : ℕ) (xs : List ℤ) (b : List ℕ) where
   accepted-shown r (inl p) e = absurd (refused-some (checkCodes n l xs b) (r .code) tt (p .refused) e)
   accepted-shown r (inr p) e = p
 
-  pub shown-accepted : Accepted (verdictCodes n l xs) → Shown (kindOf n) l xs b → (r : CheckedSheet) → ChecksSheet n l xs b r → r ≡ checked 0
+  pub shown-accepted : Accepted (storedCodes n l xs) → Shown (kindOf n) l xs b → (r : CheckedSheet) → ChecksSheet n l xs b r → r ≡ checked 0
   shown-accepted a s r (inl p) = absurd (shown-clash (r .code) (p .refused) a s)
   shown-accepted a s r (inr p) = p .answer
 
-  pub not-shown : Accepted (verdictCodes n l xs) → ¬ Shown (kindOf n) l xs b → (r : CheckedSheet) → ChecksSheet n l xs b r → r ≡ checked 20
+  pub not-shown : Accepted (storedCodes n l xs) → ¬ Shown (kindOf n) l xs b → (r : CheckedSheet) → ChecksSheet n l xs b r → r ≡ checked 20
   not-shown a f r (inl p) =
       p .zeros
-      ∙ ap checked (refused-unique (checkCodes n l xs b) (r .code) 20 (p .refused) (past-then (verdictCodes n l xs) later 20 a (inl (f, refl))))
+      ∙ ap checked (refused-unique (checkCodes n l xs b) (r .code) 20 (p .refused) (past-then (storedCodes n l xs) later 20 a (inl (f, refl))))
   not-shown a f r (inr p) = absurd (f (p .shown))
 
   pub accepted-positive : (r : CheckedSheet) → ChecksSheet n l xs b r → r .code ≡ 0 → (x : Place (kindOf n)) → pos 0 <ℤ jacobian (kindOf n) xs x
@@ -71,17 +72,18 @@ module _ (n l : ℕ) (xs : List ℤ) (b : List ℕ) where
   pub accepted-valid : (r : CheckedSheet) → ChecksSheet n l xs b r → r .code ≡ 0 → (j : Judged) → VerdictOf n l xs j → j .word ≡ words.Valid
   accepted-valid r v e j w =
       let p = accepted-shown r v e in let s = p .shown in
-      let q = told.accepted-answered (verdictCodes n l xs) (subject (kindOf n) xs) l j w (p .accepted) in
+      let q = told.accepted-answered (verdictCodes n l xs) (subject (kindOf n) xs) l j w (stored-accepted n l xs (p .accepted)) in
       ap (λ (j : Judged). j .word) (q .told)
       ∙ ap tell (passing-valid (subject (kindOf n) xs) (element-faithful (kindOf n) xs) l (s .cutting) (q .answer) (s .passing) (s .within) (q .judges))
 
-pub valid-accepted : (n l : ℕ) (xs : List ℤ) (j : Judged) → VerdictOf n l xs j
+pub valid-accepted : (n l : ℕ) (xs : List ℤ) (j : Judged) → ¬ NotStored n
+    → VerdictOf n l xs j
     → j .word ≡ words.Valid
     → (b : List ℕ) × ((r : CheckedSheet) → ChecksSheet n l xs b r → r ≡ checked 0)
-valid-accepted n l xs j v e =
+valid-accepted n l xs j s v e =
     let ready = ready-by-word n l xs j v e in let t = ready .cutting in (
       sheetBytes t,
-      shown-accepted n l xs (sheetBytes t) (told.word-answered (verdictCodes n l xs) (subject (kindOf n) xs) l judge.valid j v e .accepted)
+      shown-accepted n l xs (sheetBytes t) (s, told.word-answered (verdictCodes n l xs) (subject (kindOf n) xs) l judge.valid j v e .accepted .1)
           (record { cutting = t; passing = ready .least .passing; within = ready .least .within; bytes = refl }),
     )
 

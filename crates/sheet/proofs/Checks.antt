@@ -18,7 +18,7 @@ use Rattle.algebra.proofs.Truth.{true-T}
 use Rattle.element.specs.Kinds.{Kind, kindOf}
 use Rattle.element.specs.Control.{controlValues}
 use Rattle.element.specs.Cells.{shapeOf}
-use Rattle.element.specs.Refusals.{Codes, no-more, code, Accepted, Coded, verdictCodes}
+use Rattle.element.specs.Refusals.{Codes, no-more, code, Accepted, Coded, storedCodes}
 use Rattle.element.proofs.Refusals.{refused-then, past-then, coded-some}
 use Rattle.cuttings.specs.Bytes.{cuttingBytes, header}
 use Rattle.cuttings.specs.Reads.{Reads, Checked}
@@ -101,20 +101,20 @@ module _ (n l : ℕ) (xs : List ℤ) (b : List ℕ) where
   abbrev later : Codes ℕ
   later = code 20 (¬ Shown (kindOf n) l xs b) no-more
 
-  pub check-refused : {c : ℕ} {r : CheckedSheet} → Coded (verdictCodes n l xs) c → ¬ (c ≡ 0) → r ≡ checked c → ChecksSheet n l xs b r
+  pub check-refused : {c : ℕ} {r : CheckedSheet} → Coded (storedCodes n l xs) c → ¬ (c ≡ 0) → r ≡ checked c → ChecksSheet n l xs b r
   check-refused {c} p h e =
       subst (ChecksSheet n l xs b) (sym e)
-      (inl (record { refused = refused-then (verdictCodes n l xs) later c (coded-some p h); zeros = refl }))
+      (inl (record { refused = refused-then (storedCodes n l xs) later c (coded-some p h); zeros = refl }))
 
-  check-not : {r : CheckedSheet} → Accepted (verdictCodes n l xs) → ¬ Shown (kindOf n) l xs b → r ≡ checked 20 → ChecksSheet n l xs b r
+  check-not : {r : CheckedSheet} → Accepted (storedCodes n l xs) → ¬ Shown (kindOf n) l xs b → r ≡ checked 20 → ChecksSheet n l xs b r
   check-not a f e =
       subst (ChecksSheet n l xs b) (sym e)
-      (inl (record { refused = past-then (verdictCodes n l xs) later 20 a (inl (f, refl)); zeros = refl }))
+      (inl (record { refused = past-then (storedCodes n l xs) later 20 a (inl (f, refl)); zeros = refl }))
 
-  pub check-headless : {r : CheckedSheet} → Accepted (verdictCodes n l xs) → Headed b false → r ≡ checked 20 → ChecksSheet n l xs b r
+  pub check-headless : {r : CheckedSheet} → Accepted (storedCodes n l xs) → Headed b false → r ≡ checked 20 → ChecksSheet n l xs b r
   check-headless a h e = check-not a (headless (kindOf n) l xs b h) e
 
-  pub check-read : (s : Read) {c : ℕ} {r : CheckedSheet} → Accepted (verdictCodes n l xs) → Headed b true
+  pub check-read : (s : Read) {c : ℕ} {r : CheckedSheet} → Accepted (storedCodes n l xs) → Headed b true
       → Checked (Body (kindOf n) l xs b) b s
       → c ≡ endCode s (length b)
       → r ≡ checked c

@@ -19,10 +19,10 @@ use Rattle.forms.specs.Cuttings.{Cutting, leaves, depth, greedy}
 use Rattle.forms.specs.Shapes.{pass, cutTo}
 use Rattle.forms.proofs.Cuttings.{greedy-exists, greedy-fits, greedy-least, fits-level}
 use Rattle.forms.proofs.Shapes.{inherit}
-use Rattle.element.specs.Kinds.{Kind, kindOf}
+use Rattle.element.specs.Kinds.{Kind, NotStored, kindOf}
 use Rattle.element.specs.Control.{controlValues}
 use Rattle.element.specs.Cells.{shapeOf}
-use Rattle.element.specs.Refusals.{Accepted, verdictCodes}
+use Rattle.element.specs.Refusals.{Accepted, verdictCodes, storedCodes}
 use Rattle.judge.specs.Verdict as judge
 use Rattle.judge.specs.Verdict.{Answer, Subject, AllPass, Passing, Valid, Case, Judges}
 use Rattle.judge.specs.Elements.{subject}
@@ -104,8 +104,8 @@ ready-of k l xs a v =
     }
 
 module _ (n l : ℕ) (xs : List ℤ) (j : Judged) (v : VerdictOf n l xs j) where
-  pub valid-accepted : j .code ≡ 0 → Accepted (verdictCodes n l xs)
-  valid-accepted e = told.answered (verdictCodes n l xs) (subject (kindOf n) xs) l j tt v e .accepted
+  pub valid-accepted : ¬ NotStored n → j .code ≡ 0 → Accepted (storedCodes n l xs)
+  valid-accepted s e = (s, told.answered (verdictCodes n l xs) (subject (kindOf n) xs) l j tt v e .accepted .1)
 
   word-valid : (w : Word) → isValid w ≡ true → w ≡ words.Valid
   word-valid words.Nothing e = absurd (let z : _≡_ {A = ℕ} 0 1 = cc in omega arith)

@@ -16,7 +16,8 @@ use Rattle.forms.specs.Cuttings.{Cutting, keep, cut, depth, greedy}
 use Rattle.element.specs.Kinds.{kindOf}
 use Rattle.element.specs.Kinds as K
 use Rattle.element.specs.Control.{values6, controlValues}
-use Rattle.element.specs.Refusals.{Accepted, verdictCodes}
+use Rattle.element.specs.Refusals.{Accepted, storedCodes}
+use Rattle.element.proofs.Stored.{accepted-stored}
 use Rattle.element.proofs.Tried.{accepted-kind}
 use Rattle.judge.specs.Verdict.{Passing}
 use Rattle.judge.specs.Elements.{subject}
@@ -48,7 +49,7 @@ module _ (n l : ℕ) (xs : List ℤ) where
           let z : length (x ∷ m) ≡ 0 = ap length (bytes-unique t u (x ∷ m) [] g .1) in
           N.suc-ne-zero (length m) z
 
-  module _ (a : Accepted (verdictCodes n l xs)) (t : Cutting) (r : CheckedSheet) (v : ChecksSheet n l xs (sheetBytes t) r) where
+  module _ (a : Accepted (storedCodes n l xs)) (t : Cutting) (r : CheckedSheet) (v : ChecksSheet n l xs (sheetBytes t) r) where
     pub too-deep : l < depth t → r ≡ checked 20
     too-deep h =
         not-shown n l xs (sheetBytes t) a
@@ -64,7 +65,7 @@ unfolding controlValues values6 depth
 refuser-shut f =
     let (r, v, h) = f 6 0 (F 0) (sheetBytes keep) in
     h (ap (λ (r : CheckedSheet). r .code)
-    (shown-accepted 6 0 (F 0) (sheetBytes keep) (accepted-kind K.six 0 (F 0) tt)
+    (shown-accepted 6 0 (F 0) (sheetBytes keep) (accepted-stored 6 0 (F 0) (λ f. f .0 refl) (accepted-kind K.six 0 (F 0) tt))
     (record { cutting = keep; passing = tt; within = N.le-refl 0; bytes = refl }) r v))
 
 -- ---- G(3,4) fails as a whole, and its quarters pass
@@ -74,5 +75,5 @@ pub four-cells : (before : List ℕ) → 10 ≤ length before
     → (r ≡ written 0 10) × (after ≡ 67 ∷ 80 ∷ 83 ∷ 1 ∷ 0 ∷ 1 ∷ 0 ∷ 0 ∷ 0 ∷ 0 ∷ drop 10 before)
 unfolding weigh controlValues values6 greedy cuttingBytes
 four-cells before h r after v =
-    least-written 6 3 (G 3 4) before (cut keep keep keep keep) (accepted-kind K.six 3 (G 3 4) tt)
+    least-written 6 3 (G 3 4) before (cut keep keep keep keep) (accepted-stored 6 3 (G 3 4) (λ f. f .0 refl) (accepted-kind K.six 3 (G 3 4) tt))
     (greedy-cutting (subject K.six (G 3 4)) 3 (cut keep keep keep keep) refl) h r after v

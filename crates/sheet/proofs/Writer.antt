@@ -18,8 +18,8 @@ use lib.IntN.{ℤ}
 use lib.ListN.{length, take, drop, length-append}
 use lib.Seq.{take-at}
 use Rattle.forms.specs.Cuttings.{Cutting, leaves}
-use Rattle.element.specs.Kinds.{Kind, kindOf}
-use Rattle.element.specs.Refusals.{Codes, no-more, code, Refused, Accepted, verdictCodes}
+use Rattle.element.specs.Kinds.{Kind, NotStored, kindOf}
+use Rattle.element.specs.Refusals.{Codes, no-more, code, Refused, Accepted, verdictCodes, storedCodes}
 use Rattle.element.proofs.Refusals.{refused-unique, refused-accepted, refused-some, past-then, accepted-then, then-accepted, then-refused}
 use Rattle.judge.specs.Verdict as judge
 use Rattle.judge.specs.Verdict.{Answer, Subject, Valid}
@@ -75,14 +75,14 @@ module _ (n l : ℕ) (xs : List ℤ) (before : List ℕ) where
       let b : List ℕ = sheetBytes (w .cutting) in
       ap (λ (m : ℕ). take m after) (length-is r after w) ∙ ap (take (length b)) (w .filled) ∙ take-at b (drop (length b) before) (length b) refl
 
-  accepted-verdict : (r : WrittenSheet) (after : List ℕ) → HasSheet n l xs before r after → Accepted (verdictCodes n l xs)
-  accepted-verdict r after w = then-accepted (verdictCodes n l xs) later (w .accepted) .0
+  accepted-verdict : (r : WrittenSheet) (after : List ℕ) → HasSheet n l xs before r after → Accepted (storedCodes n l xs)
+  accepted-verdict r after w = then-accepted (storedCodes n l xs) later (w .accepted) .0
 
   module _ (r : WrittenSheet) (after : List ℕ) (v : WritesSheet n l xs before r after) (e : r .code ≡ 0) where
     has : HasSheet n l xs before r after
     has = has-sheet r after v e
 
-    pub written-accepted : (m : ℕ) → l ≤ m → Accepted (verdictCodes n m xs) → (s : CheckedSheet) → ChecksSheet n m xs (take (r .length) after) s → s ≡ checked 0
+    pub written-accepted : (m : ℕ) → l ≤ m → Accepted (storedCodes n m xs) → (s : CheckedSheet) → ChecksSheet n m xs (take (r .length) after) s → s ≡ checked 0
     written-accepted m h a s c =
         shown-accepted n m xs (take (r .length) after) a
         (record {
@@ -121,7 +121,7 @@ least-valid k l xs t p f =
     let (a, j) = judges-some s y l in
     f a (subst (λ (v : judge.Word). judge.Case s v l a) (passing-valid s y l t a (p .passing) (p .within) j) j)
 
-pub least-written : (n l : ℕ) (xs : List ℤ) (before : List ℕ) (t : Cutting) → Accepted (verdictCodes n l xs)
+pub least-written : (n l : ℕ) (xs : List ℤ) (before : List ℕ) (t : Cutting) → Accepted (storedCodes n l xs)
     → LeastCutting (subject (kindOf n) xs) l t
     → length (sheetBytes t) ≤ length before
     → (r : WrittenSheet) (after : List ℕ)
@@ -131,7 +131,7 @@ least-written n l xs before t a p h r after v =
     write-unique n l xs before r (written 0 (length (sheetBytes t))) after (sheetBytes t ++ drop (length (sheetBytes t)) before) v
     (inr
     (record {
-      accepted = accepted-then (verdictCodes n l xs) (later n l xs before) a (least-valid (kindOf n) l xs t p, (enough, tt));
+      accepted = accepted-then (storedCodes n l xs) (later n l xs before) a (least-valid (kindOf n) l xs t p, (enough, tt));
       cutting = t;
       least = p;
       answer = refl;
@@ -145,18 +145,18 @@ least-written n l xs before t a p h r after v =
 pub written-higher : (n l m : ℕ) (xs : List ℤ) (before : List ℕ) (r s : WrittenSheet) (o p : List ℕ) → WritesSheet n l xs before r o
     → r .code ≡ 0
     → l ≤ m
-    → Accepted (verdictCodes n m xs)
+    → Accepted (storedCodes n m xs)
     → WritesSheet n m xs before s p
     → (s ≡ r) × (p ≡ o)
 written-higher n l m xs before r s o p v e h a w =
     let x = has-sheet n l xs before r o v e in let t = x .cutting in
-    let none-short = then-accepted (verdictCodes n l xs) (later n l xs before) (x .accepted) .1 .1 .0 in
+    let none-short = then-accepted (storedCodes n l xs) (later n l xs before) (x .accepted) .1 .1 .0 in
     let enough : length (sheetBytes t) ≤ length before = N.le-of-suc-le-suc (N.lt-of-not-le (λ k. none-short (t, x .least, k))) in
     let y = least-written n m xs before t a (least-higher (subject (kindOf n) xs) l m t h (x .least)) enough s p w in
     (y .0 ∙ sym (x .answer), y .1 ∙ sym (x .filled))
 
--- ---- from the verdict
-module _ (n l : ℕ) (xs : List ℤ) (j : Judged) (v : VerdictOf n l xs j) where
+-- ---- from the verdict, of the kinds that have sheets
+module _ (n l : ℕ) (xs : List ℤ) (s : ¬ NotStored n) (j : Judged) (v : VerdictOf n l xs j) where
   pub not-valid-written : j .code ≡ 0 → ¬ (j .word ≡ words.Valid)
       → (before : List ℕ) (r : WrittenSheet) (after : List ℕ)
       → WritesSheet n l xs before r after
@@ -167,7 +167,7 @@ module _ (n l : ℕ) (xs : List ℤ) (j : Judged) (v : VerdictOf n l xs j) where
       w .zeros
       ∙ ap (λ (c : ℕ). written c 0)
       (refused-unique (writeCodes n l xs (length before)) (r .code) 20 (w .refused)
-      (past-then (verdictCodes n l xs) (later n l xs before) 20 (q .accepted) (inl (none, refl))))
+      (past-then (storedCodes n l xs) (later n l xs before) 20 (s, q .accepted .1) (inl (none, refl))))
     where
       by-valid : (a : Answer) → Valid (subject (kindOf n) xs) l a → j .word ≡ words.Valid
       by-valid a p =
@@ -181,18 +181,18 @@ module _ (n l : ℕ) (xs : List ℤ) (j : Judged) (v : VerdictOf n l xs j) where
     ready : Ready (kindOf n) l xs (j .cells)
     ready = ready-by-word n l xs j v e
 
-    is-accepted : Accepted (verdictCodes n l xs)
-    is-accepted = told.word-answered (verdictCodes n l xs) (subject (kindOf n) xs) l judge.valid j v e .accepted
+    is-accepted : Accepted (storedCodes n l xs)
+    is-accepted = (s, told.word-answered (verdictCodes n l xs) (subject (kindOf n) xs) l judge.valid j v e .accepted .1)
 
     valid-size : length (sheetBytes (ready .cutting)) ≡ sheetSize (j .cells)
     valid-size = sheet-size (ready .cutting) ∙ ap sheetSize (sym (ready .many))
 
     -- an order without 20
     only-short : (before : List ℕ) (c : ℕ) → Refused (writeCodes n l xs (length before)) c → (c ≡ 5) × Short (kindOf n) l xs (length before)
-    only-short before c p = go (then-refused (verdictCodes n l xs) (later n l xs before) c p)
+    only-short before c p = go (then-refused (storedCodes n l xs) (later n l xs before) c p)
       where
-        go : Refused (verdictCodes n l xs) c ⊎ Refused (later n l xs before) c → (c ≡ 5) × Short (kindOf n) l xs (length before)
-        go (inl f) = absurd (refused-accepted (verdictCodes n l xs) c f is-accepted)
+        go : Refused (storedCodes n l xs) c ⊎ Refused (later n l xs before) c → (c ≡ 5) × Short (kindOf n) l xs (length before)
+        go (inl f) = absurd (refused-accepted (storedCodes n l xs) c f is-accepted)
         go (inr (inl (f, q))) = absurd (f (ready .answer) (ready .valid))
         go (inr (inr (f, inl (g, q)))) = (q, g)
         go (inr (inr (f, inr (g, none)))) = absurd none
@@ -215,5 +215,5 @@ module _ (n l : ℕ) (xs : List ℤ) (j : Judged) (v : VerdictOf n l xs j) where
     valid-short before h r after (inl w) =
         (w .zeros ∙ ap (λ (c : ℕ). written c 0) (only-short before (r .code) (w .refused) .0), w .untouched)
     valid-short before h r after (inr w) =
-        let f = then-accepted (verdictCodes n l xs) (later n l xs before) (w .accepted) .1 .1 .0 in
+        let f = then-accepted (storedCodes n l xs) (later n l xs before) (w .accepted) .1 .1 .0 in
         absurd (f (ready .cutting, ready .least, rw valid-size h))

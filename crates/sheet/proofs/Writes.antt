@@ -16,10 +16,11 @@ use lib.ListN.{length, drop}
 use Rattle.forms.specs.Cuttings.{Cutting}
 use Rattle.forms.specs.Shapes.{pass, cutTo}
 use Rattle.forms.proofs.Cuttings.{leaves-positive}
-use Rattle.element.specs.Kinds.{kindOf}
+use Rattle.element.specs.Kinds.{NotStored, kindOf}
 use Rattle.element.specs.Control.{controlValues}
-use Rattle.element.specs.Refusals.{Codes, no-more, code, Refused, verdictCodes}
+use Rattle.element.specs.Refusals.{Codes, no-more, code, Refused, storedCodes}
 use Rattle.element.proofs.Refusals.{refused-then, past-then, accepted-then}
+use Rattle.element.proofs.Stored.{stored-not-ten, stored-alike}
 use Rattle.judge.specs.Elements.{subject}
 use Rattle.verdict.specs.Calls.{VerdictOf}
 use Rattle.verdict.specs.declared.Judged.{Judged}
@@ -34,14 +35,20 @@ use Rattle.sheet.specs.declared.WrittenSheet.{WrittenSheet}
 use Rattle.sheet.proofs.Elements.{as-kind}
 use Rattle.sheet.proofs.Least.{least-unique, Ready, valid-accepted, valid-ready, not-valid}
 
-pub wrote-sheet : (n l : ℕ) (xs r : List ℤ) {o m p : List ℕ} {a e : ℕ} → valuesBy (eqb n 6) r ≡ controlValues (kindOf n) xs
+pub wrote-sheet : (n l : ℕ) (xs r : List ℤ) {o m p : List ℕ} {a e : ℕ} → ¬ NotStored n
+    → valuesBy (eqb n 6) r ≡ controlValues (kindOf n) xs
     → Wrote o 0 header m a
     → Wrote m a (cuttingBytes (trimmed (pass (shapeBy (eqb n 6))) (cutTo (shapeBy (eqb n 6))) l (valuesBy (eqb n 6) r))) p e
     → Wrote o 0 (trimmedBytes (kindOf n) l xs) p e
-wrote-sheet n l xs r {o} {m} {p} {a} {e} f g h =
-    wrote-more g (as-kind n xs r (λ S c. Wrote m a (cuttingBytes (trimmed (pass S) (cutTo S) l c)) p e) f h)
+wrote-sheet n l xs r {o} {m} {p} {a} {e} s f g h =
+    wrote-more g (as-kind n xs r s (λ S c. Wrote m a (cuttingBytes (trimmed (pass S) (cutTo S) l c)) p e) f h)
 
-module _ (n l : ℕ) (xs : List ℤ) (before : List ℕ) (j : Judged) (v : VerdictOf n l xs j) where
+-- of a kind that has no sheet
+pub write-other : (n l : ℕ) (xs : List ℤ) (before : List ℕ) {r : WrittenSheet} → NotStored n → r ≡ written 1 0 → WritesSheet n l xs before r before
+write-other n l xs before f e =
+    subst (λ (r : WrittenSheet). WritesSheet n l xs before r before) (sym e) (inl (record { refused = inl (f, refl); zeros = refl; untouched = refl }))
+
+module _ (n l : ℕ) (xs : List ℤ) (before : List ℕ) (s : ¬ NotStored n) (j : Judged) (v : VerdictOf n l xs j) where
   abbrev later : Codes ℕ
   later = code 20 (NotValid (kindOf n) l xs) (code 5 (Short (kindOf n) l xs (length before)) no-more)
 
@@ -52,11 +59,11 @@ module _ (n l : ℕ) (xs : List ℤ) (before : List ℕ) (j : Judged) (v : Verdi
   write-refused {r} h e = go v
     where
       go : VerdictOf n l xs j → WritesSheet n l xs before r before
-      go (inl p) = refuse (refused-then (verdictCodes n l xs) later (j .code) (p .refused)) e
+      go (inl p) = refuse (refused-then (storedCodes n l xs) later (j .code) (stored-alike n l xs (stored-not-ten s) (j .code) .1 (p .refused))) e
       go (inr p) = absurd (h (ap (λ (q : Judged). q .code) (p .told)))
 
   pub write-not-valid : {r : WrittenSheet} → j .code ≡ 0 → isValid (j .word) ≡ false → r ≡ written 20 0 → WritesSheet n l xs before r before
-  write-not-valid e h = refuse (past-then (verdictCodes n l xs) later 20 (valid-accepted n l xs j v e) (inl (not-valid n l xs j v e h, refl)))
+  write-not-valid e h = refuse (past-then (storedCodes n l xs) later 20 (valid-accepted n l xs j v s e) (inl (not-valid n l xs j v e h, refl)))
 
   -- the sheet of a valid element
   module _ (e : j .code ≡ 0) (h : isValid (j .word) ≡ true) where
@@ -75,7 +82,7 @@ module _ (n l : ℕ) (xs : List ℤ) (before : List ℕ) (j : Judged) (v : Verdi
     pub write-short : {r : WrittenSheet} → length before < sheetSize (j .cells) → r ≡ written 5 0 → WritesSheet n l xs before r before
     write-short k =
         refuse
-        (past-then (verdictCodes n l xs) later 5 (valid-accepted n l xs j v e)
+        (past-then (storedCodes n l xs) later 5 (valid-accepted n l xs j v s e)
         (inr (is-valid, inl ((ready .cutting, ready .least, rw size-is k), refl))))
 
     not-short : sheetSize (j .cells) ≤ length before → ¬ Short (kindOf n) l xs (length before)
@@ -94,7 +101,7 @@ module _ (n l : ℕ) (xs : List ℤ) (before : List ℕ) (j : Judged) (v : Verdi
         let room : 0 + length b ≤ length before = rw (N.zero-add (length b), size-is) k in
         inr
         (record {
-          accepted = accepted-then (verdictCodes n l xs) later (valid-accepted n l xs j v e) (is-valid, (not-short k, tt));
+          accepted = accepted-then (storedCodes n l xs) later (valid-accepted n l xs j v s e) (is-valid, (not-short k, tt));
           cutting = ready .cutting;
           least = ready .least;
           answer = f ∙ ap (written 0) (w .place room ∙ N.zero-add (length b));

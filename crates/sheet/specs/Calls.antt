@@ -23,7 +23,7 @@ use lib.IntN.{ℤ}
 use lib.ListN.{length, drop}
 use Rattle.forms.specs.Cuttings.{Cutting, leaves, depth}
 use Rattle.element.specs.Kinds.{Kind, kindOf}
-use Rattle.element.specs.Refusals.{Codes, no-more, code, _then_, Refused, Accepted, verdictCodes}
+use Rattle.element.specs.Refusals.{Codes, no-more, code, _then_, Refused, Accepted, storedCodes}
 use Rattle.judge.specs.Verdict.{Answer, Subject, Passing, Valid}
 use Rattle.judge.specs.Elements.{subject}
 use Rattle.cuttings.specs.Bytes.{sheetBytes}
@@ -40,7 +40,7 @@ pub record Shown (k : Kind) (l : ℕ) (xs : List ℤ) (b : List ℕ) : Type 0 wh
 
 -- "the verdict's own first; .. the checker gives 20 for a sheet it doesn't accept"
 abbrev pub checkCodes : ℕ → ℕ → List ℤ → List ℕ → Codes ℕ
-checkCodes n l xs b = verdictCodes n l xs then code 20 (¬ Shown (kindOf n) l xs b) no-more
+checkCodes n l xs b = storedCodes n l xs then code 20 (¬ Shown (kindOf n) l xs b) no-more
 
 -- "the record number for faults in a stored record (else 0)": no record is stored here
 abbrev pub checked : ℕ → CheckedSheet
@@ -51,7 +51,7 @@ pub record NotShown (n l : ℕ) (xs : List ℤ) (b : List ℕ) (r : CheckedSheet
   pub zeros : r ≡ checked (r .code)
 
 pub record IsShown (n l : ℕ) (xs : List ℤ) (b : List ℕ) (r : CheckedSheet) : Type 0 where
-  pub accepted : Accepted (verdictCodes n l xs)
+  pub accepted : Accepted (storedCodes n l xs)
   pub shown : Shown (kindOf n) l xs b
   pub answer : r ≡ checked 0
 
@@ -73,7 +73,7 @@ Short k l xs room = (t : Cutting) × LeastCutting (subject k xs) l t × (room < 
 
 abbrev pub writeCodes : ℕ → ℕ → List ℤ → ℕ → Codes ℕ
 writeCodes n l xs room =
-    verdictCodes n l xs then code 20 (NotValid (kindOf n) l xs) (code 5 (Short (kindOf n) l xs room) no-more)
+    storedCodes n l xs then code 20 (NotValid (kindOf n) l xs) (code 5 (Short (kindOf n) l xs room) no-more)
 
 abbrev pub written : ℕ → ℕ → WrittenSheet
 written c m = record { code = c; number = 0; length = m }

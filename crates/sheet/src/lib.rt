@@ -1,6 +1,7 @@
 // The calls `write_sheet` and `check_sheet` (02, Ask 5).
 use cuttings::Read;
-use faults::verdict_code;
+use faults::stored;
+use faults::stored_code;
 use sheet_cells::either::sixteen;
 use sheet_cells::read;
 use sheet_cells::write;
@@ -8,10 +9,10 @@ use text::write::word;
 use verdict::Word;
 ghost use mathlib.Core.Path.{_≡_};
 ghost use lib.Dec.{eqb};
-ghost use Rattle.element.specs.Kinds.{kindOf};
+ghost use Rattle.element.specs.Kinds.{NotStored, kindOf};
 ghost use Rattle.element.specs.Control.{controlValues};
 ghost use Rattle.element.specs.Origin.{Inside};
-ghost use Rattle.element.specs.Refusals.{Accepted, verdictCodes};
+ghost use Rattle.element.specs.Refusals.{Accepted, storedCodes};
 ghost use Rattle.text.specs.Writing.{Wrote};
 ghost use Rattle.sheet_cells.specs.Either.{valuesBy};
 ghost use Rattle.sheet.specs.Steps.{Headed, endCode, isValid, trimmedBytes};
@@ -32,7 +33,7 @@ pub struct WrittenSheet {
 
 // The control values of an element, a triangle's first.
 fn values(kind: u8, coords: &[i32]) -> [i64; 16]
-    requires { ⌜ Inside (kindOf kind) (now coords) ⌝ }
+    requires { ⌜ ¬ NotStored kind × Inside (kindOf kind) (now coords) ⌝ }
     ensures { λ r. ⌜ valuesBy (eqb kind 6) r ≡ controlValues (kindOf kind) (now (coords .entry)) ⌝ }
 {
     if kind == 6 {
@@ -77,7 +78,7 @@ fn checked(code: u8) -> CheckedSheet
 pub fn check_sheet(kind: u8, limit: u8, coords: &[i32], sheet: &[u8]) -> CheckedSheet
     ensures { λ r. ⌜ ChecksSheet kind limit (now (coords .entry)) (now (sheet .entry)) r ⌝ }
 {
-    let code = verdict_code(kind, limit, coords);
+    let code = stored_code(kind, limit, coords);
     if code != 0 {
         return checked(code);
     }
@@ -103,7 +104,7 @@ fn valid(word: Word) -> bool
 
 // Writes the sheet that keeps what passes and cuts any other, if there is room for it: the place after it.
 fn write_all(kind: u8, limit: u8, coords: &[i32], out: &mut [u8]) -> usize
-    requires { ⌜ Accepted (verdictCodes kind limit (now coords)) ⌝ }
+    requires { ⌜ Accepted (storedCodes kind limit (now coords)) ⌝ }
     ensures { λ r. ⌜ Wrote (now (out .entry)) 0 (trimmedBytes (kindOf kind) limit (now (coords .entry))) (now (out .exit)) r ⌝ }
 {
     let c = values(kind, coords);
@@ -127,6 +128,9 @@ fn written(code: u8, length: usize) -> WrittenSheet
 pub fn write_sheet(kind: u8, limit: u8, coords: &[i32], out: &mut [u8]) -> WrittenSheet
     ensures { λ r. ⌜ WritesSheet kind limit (now (coords .entry)) (now (out .entry)) r (now (out .exit)) ⌝ }
 {
+    if !stored(kind) {
+        return written(1, 0);
+    }
     let judged = verdict::verdict(kind, limit, coords);
     if judged.code != 0 {
         return written(judged.code, 0);

@@ -18,6 +18,7 @@ use lib.ListN.{length, take}
 use lib.Seq.{take-all, length-take-le}
 use Rattle.element.specs.Kinds.{kindOf}
 use Rattle.element.specs.Refusals.{Codes, AboveLevel, Accepted, verdictCodes}
+use Rattle.element.proofs.Stored.{stored-kind}
 use Rattle.judge.specs.Verdict.{valid, invalid, undecided, Subject}
 use Rattle.judge.specs.Verdict as judge
 use Rattle.judge.proofs.Faithful.{element-faithful}
@@ -50,7 +51,7 @@ pub formed-accepted : {v : ℕ} (r : Record) → WellFormed v r
 formed-accepted r w n h =
     let k = known-small (r .kind) (w .kind-known) in
     let e = w .nine-pairs in
-    (w .kind-known, (h, ((λ f. f (length-take-le (2 * r .kind) (r .coords) (omega arith))), (w .inside, (w .corners-differ, tt)))))
+    (stored-kind (w .kind-known), (h, ((λ f. f (length-take-le (2 * r .kind) (r .coords) (omega arith))), (w .inside, (w .corners-differ, tt)))))
 
 pub formed-level : {v : ℕ} (r : Record) → WellFormed v r → ¬ (r .signed ≡ 0) → Accepted (verdictCodes (r .kind) (r .level) (used r))
 formed-level {v} r w s =

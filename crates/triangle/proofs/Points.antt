@@ -1,5 +1,5 @@
 -- The control points of a triangle are small, and their determinants are 01's control values.
---   between-small, points6-nine : sizes
+--   between-small, points6-ten : sizes
 --   combine6-is      : the control values
 -- Assumes nothing.
 use mathlib.Core.Path.{_≡_, refl, _∙_}
@@ -13,19 +13,19 @@ use Rattle.element.specs.Kinds.{six}
 use Rattle.element.specs.Control.{at, values6, controlValues}
 use Rattle.element.specs.Origin.{fromFirst, Inside}
 use Rattle.element.proofs.Origin.{values-first}
-use Rattle.points.specs.Points.{Nine, coordinates}
+use Rattle.points.specs.Points.{Ten, coordinates}
 use Rattle.triangle.specs.Points.{between, points6, combine6}
 
-pub between-small : {n : List ℤ} → Nine 131072 n → (m a b : ℕ) → Within 786432 (between n m a b)
+pub between-small : {n : List ℤ} → Ten 131072 n → (m a b : ℕ) → Within 786432 (between n m a b)
 between-small p m a b = within-- (within-- (within-* (within-pos 4) (p .each .at m)) (p .each .at a)) (p .each .at b)
 
-pub points6-nine : {n : List ℤ} → Nine 131072 n → Nine 786432 (points6 n)
-points6-nine {n} p =
+pub points6-ten : {n : List ℤ} → Ten 131072 n → Ten 786432 (points6 n)
+points6-ten {n} p =
     record {
       long = refl;
       each = each-cons (corner 0) (each-cons (corner 1) (each-cons (corner 2)
           (each-cons (between-small p 3 0 1) (each-cons (between-small p 4 1 2) (each-cons (between-small p 5 0 2)
-          (each-cons none (each-cons none (each-cons none each-nil))))))));
+          (each-cons none (each-cons none (each-cons none (each-cons none each-nil)))))))));
     }
   where
     corner : (k : ℕ) → Within 786432 (pos 2 *ℤ at n k)

@@ -16,7 +16,7 @@ between n m a b = pos 4 *ℤ at n m -ℤ at n a -ℤ at n b
 abbrev pub points6 : List ℤ → List ℤ
 points6 n =
     (pos 2 *ℤ at n 0) ∷ (pos 2 *ℤ at n 1) ∷ (pos 2 *ℤ at n 2)
-    ∷ between n 3 0 1 ∷ between n 4 1 2 ∷ between n 5 0 2 ∷ pos 0 ∷ pos 0 ∷ pos 0 ∷ []
+    ∷ between n 3 0 1 ∷ between n 4 1 2 ∷ between n 5 0 2 ∷ pos 0 ∷ pos 0 ∷ pos 0 ∷ pos 0 ∷ []
 
 -- "ckk = 2 det(ak,bk); ckl = det(ak,bl) + det(al,bk)"; a0, a1, a2 run from 0 to 3, from 3 to 1 and from 5 to 4, and b0, b1, b2
 -- from 0 to 5, from 3 to 4 and from 5 to 2

@@ -10,11 +10,11 @@ ghost use mathlib.Core.Path.{_≡_};
 ghost use Prim.Native.Nat.{_<_};
 ghost use lib.Dec.{T};
 ghost use Rattle.algebra.specs.Within.{Each};
+ghost use Rattle.corners.specs.Triangles.{firstBad};
 ghost use Rattle.forms.specs.Cells.{positives, rowsAdd};
 ghost use Rattle.forms.specs.Cuttings.{fourOf};
 ghost use Rattle.forms.specs.Shapes.{tips, pass, cutTo};
 ghost use Rattle.forms.specs.Triangles.{six};
-ghost use Rattle.triangle_cuts.specs.Corners.{firstBad};
 
 // The weights of the values of a cell in those of its quarters: "V0 E01 E02; E01 V1 E12; E02 E12 V2; E12 E02 E01". Beside each
 // row stand its quarter and the two corners whose value it gives.
@@ -94,7 +94,7 @@ pub fn passes(c: [i64; 6]) -> bool
 
 // The first bad corner of a cell of a level, with its corners at the columns xs and the rows ys.
 pub fn first_bad(c: [i64; 6], level: u32, xs: [u32; 3], ys: [u32; 3]) -> First
-    ensures { λ r. ⌜ r ≡ firstBad c level xs ys ⌝ }
+    ensures { λ r. ⌜ r ≡ firstBad (tips six) c level xs ys ⌝ }
 {
     let p = corner(c[0], level, xs[0], ys[0]);
     let q = corner(c[1], level, xs[1], ys[1]);

@@ -4,12 +4,13 @@
 --   cut-room, room-x, room-y : what the callees need
 --   quarter-room    : a quarter has room for one cut less
 --   room-of         : the whole element has room for n cuts where its values have room for m, no fewer
---   start-room      : and for ten cuts where they are within 2^42
+--   start-room      : of six nodes, for ten cuts, where they are within 2^42
+-- Over the shape of a triangle, of any degree.
 -- Assumes nothing.
 use mathlib.Core.Path.{_≡_, refl}
 use mathlib.Core.Bool.{Bool, true, false, not}
 use mathlib.Core.List.{List, [], _∷_}
-use Prim.Native.Nat.{ℕ, _+_, _*_, _-_, _≤_, _<_}
+use Prim.Native.Nat.{ℕ, _+_, _*_, _-_, _^_, _≤_, _<_}
 use native.Mathlib.Nat as N
 use native.Mathlib.Omega.{arith}
 use lib.Dec.{lit≤}
@@ -17,9 +18,8 @@ use lib.IntN.{ℤ}
 use Rattle.algebra.specs.Within.{Each}
 use Rattle.algebra.proofs.Within.{each-≤}
 use Rattle.forms.specs.Cuttings.{Four, first, second, third, fourth}
-use Rattle.forms.specs.Shapes.{cutTo}
+use Rattle.forms.specs.Shapes.{Shape, cutTo, Lawful}
 use Rattle.forms.specs.Triangles.{six}
-use Rattle.forms.proofs.Triangles.{six-lawful}
 use Rattle.walks.specs.Triangles.{Corners, triangleChart}
 use Rattle.walks.specs.Room.{cap, span}
 use Rattle.walks.proofs.Room.{cap-cut, cap-down, cap-quarter, span-le, span-cut, span-down}
@@ -105,9 +105,10 @@ low-row fourth {up = up} p h = low-turned up p h
 some-left : {n : ℕ} → 0 < n → ¬ (n ≡ 0)
 some-left h e = omega arith
 
-module _ {n l i j : ℕ} {up : Bool} {c : List ℤ} (r : Room n l i j up c) where
-  pub cut-room : 0 < n → Each 1152921504606846976 c
-  cut-room h = each-≤ (r .small) (let k = cap-cut 4 n (some-left h) in omega arith)
+module _ {S : Shape} {n l i j : ℕ} {up : Bool} {c : List ℤ} (r : Room S n l i j up c) where
+  -- m is as much as a cut has room for
+  pub cut-room : (m : ℕ) → 0 < S .growth → S .growth * m ≡ 2 ^ 62 → 0 < n → Each m c
+  cut-room m g e h = each-≤ (r .small) (N.le-of-mul-le-mul-left (rw e (cap-cut (S .growth) n (some-left h))) g)
 
   pub room-x : Low 1048576 up i
   room-x = low-≤ (r .wide) (span-le n)
@@ -115,35 +116,35 @@ module _ {n l i j : ℕ} {up : Bool} {c : List ℤ} (r : Room n l i j up c) wher
   pub room-y : Low 1048576 up j
   room-y = low-≤ (r .high) (span-le n)
 
-  pub quarter-room : (q : Four) {x y : ℕ} {v : List ℤ} → 0 < n
-      → v ≡ cutTo six q c
+  pub quarter-room : Lawful S → (q : Four) {x y : ℕ} {v : List ℤ} → 0 < n
+      → v ≡ cutTo S q c
       → x ≡ columnOf q up i
       → y ≡ rowOf q up j
-      → Room (n - 1) (l + 1) x y (upOf q up) v
-  quarter-room q h e f g =
+      → Room S (n - 1) (l + 1) x y (upOf q up) v
+  quarter-room W q h e f g =
       rw (e, f, g)
       (record {
-        small = cap-quarter six six-lawful q n c (some-left h) (r .small);
+        small = cap-quarter S W q n c (some-left h) (r .small);
         deep = let d = r .deep in omega arith;
         wide = low-column q (r .wide) (span-cut n (some-left h));
         high = low-row q (r .high) (span-cut n (some-left h));
       })
-
-cap-ten : 4398046511104 ≤ cap 4 10
-unfolding cap
-cap-ten = lit≤ tt
 
 span-ten : 1 ≤ span 10
 unfolding span
 span-ten = lit≤ tt
 
 -- values that have room for m cuts have it for n, no more than these
-pub room-of : (n m : ℕ) (c : List ℤ) → n ≤ m → m ≤ 10 → Each (cap 4 m) c → Room n 0 0 0 true c
-room-of n m c h k p =
+pub room-of : (S : Shape) (n m : ℕ) (c : List ℤ) → n ≤ m → m ≤ 10 → Each (cap (S .growth) m) c → Room S n 0 0 0 true c
+room-of S n m c h k p =
     let e : 10 - n + n ≡ 10 = omega arith in let f : m - n + n ≡ m = omega arith in
     let s : 1 ≤ span n = N.le-trans span-ten (rw e at (span-down (10 - n) n)) in
     let low : Low (span n) true 0 = record { here = omega arith; there = s; before = omega arith } in
-    record { small = each-≤ p (rw f at (cap-down 4 (m - n) n)); deep = omega arith; wide = low; high = low }
+    record { small = each-≤ p (rw f at (cap-down (S .growth) (m - n) n)); deep = omega arith; wide = low; high = low }
 
-pub start-room : (n : ℕ) (c : List ℤ) → n ≤ 10 → Each 4398046511104 c → Room n 0 0 0 true c
-start-room n c h p = room-of n 10 c h (N.le-refl 10) (each-≤ p cap-ten)
+cap-ten : 4398046511104 ≤ cap 4 10
+unfolding cap
+cap-ten = lit≤ tt
+
+pub start-room : (n : ℕ) (c : List ℤ) → n ≤ 10 → Each 4398046511104 c → Room six n 0 0 0 true c
+start-room n c h p = room-of six n 10 c h (N.le-refl 10) (each-≤ p cap-ten)

@@ -20,7 +20,7 @@ ghost use Rattle.triangle_walk.specs.Walks.{Low, Room, cellWalk};
 ghost use Rattle.triangle_walk.specs.Walks as walks;
 
 // The column, or the row, beside k: the next where the cell points up, the one before where it points down.
-fn ahead(up: bool, k: u32) -> u32
+pub fn ahead(up: bool, k: u32) -> u32
     requires { ⌜ Low 1048576 up k ⌝ }
     ensures { λ r. ⌜ r ≡ walks.ahead up k ⌝ }
 {
@@ -32,8 +32,8 @@ fn ahead(up: bool, k: u32) -> u32
 
 // A walk w, and after it that of a cell of the level, to the limit that w leaves. A cell that passes is tested here, without a call.
 fn next(w: Walk, c: [i64; 6], left: u32, level: u32, stop: u32, i: u32, j: u32, up: bool) -> Walk
-    requires { ⌜ Few 3145728 w × Room left level i j up c ⌝ }
-    ensures { λ r. ⌜ r ≡ steps.merge w (cellWalk left level (steps.lowered stop (w .best)) i j up c) ⌝ }
+    requires { ⌜ Few 3145728 w × Room six left level i j up c ⌝ }
+    ensures { λ r. ⌜ r ≡ steps.merge w (cellWalk six left level (steps.lowered stop (w .best)) i j up c) ⌝ }
 {
     let limit = lowered(stop, w);
     if passes(c) {
@@ -44,8 +44,8 @@ fn next(w: Walk, c: [i64; 6], left: u32, level: u32, stop: u32, i: u32, j: u32, 
 
 // The walk of a cell that does not pass.
 fn walk_open(c: [i64; 6], left: u32, level: u32, stop: u32, i: u32, j: u32, up: bool) -> Walk
-    requires { ⌜ (pass six c ≡ false) × Room left level i j up c ⌝ }
-    ensures { λ r. ⌜ r ≡ cellWalk left level stop i j up c ⌝ }
+    requires { ⌜ (pass six c ≡ false) × Room six left level i j up c ⌝ }
+    ensures { λ r. ⌜ r ≡ cellWalk six left level stop i j up c ⌝ }
 {
     let x = ahead(up, i);
     let y = ahead(up, j);
@@ -67,8 +67,8 @@ fn walk_open(c: [i64; 6], left: u32, level: u32, stop: u32, i: u32, j: u32, up: 
 
 // The walk of a cell of the level at the grid point (i, j): at most `left` cuts, none below the level `stop`.
 pub fn walk_cell(c: [i64; 6], left: u32, level: u32, stop: u32, i: u32, j: u32, up: bool) -> Walk
-    requires { ⌜ Room left level i j up c ⌝ }
-    ensures { λ r. ⌜ r ≡ cellWalk left level stop i j up c ⌝ }
+    requires { ⌜ Room six left level i j up c ⌝ }
+    ensures { λ r. ⌜ r ≡ cellWalk six left level stop i j up c ⌝ }
 {
     if !passes(c) {
         return walk_open(c, left, level, stop, i, j, up);

@@ -13,8 +13,8 @@ use lib.IntN.{ℤ, pos, _*ℤ_, *ℤ-comm}
 use Rattle.algebra.proofs.Order.{0<pos, *ℤ-cancel}
 use Rattle.forms.specs.Rows.{Row}
 use Rattle.forms.specs.Shapes.{scaled, Point}
-use Rattle.forms.specs.Triangles.{degrees6, place6}
-use Rattle.element.specs.Kinds.{Kind, six, eight, nine, scale}
+use Rattle.forms.specs.Triangles.{degrees6, place6, degrees10, place10}
+use Rattle.element.specs.Kinds.{Kind, six, eight, nine, ten, scale}
 use Rattle.element.specs.Places.{InQuad, Place}
 use Rattle.element.specs.Jacobian.{fold, BadBy, ShowsBy}
 use Rattle.element.specs.Cells.{shapeOf, quadRows, rowsOf, Means}
@@ -29,7 +29,7 @@ use Rattle.turns.specs.Turns.{Turn, turnBy, Full, Keeps, Turned}
 use Rattle.turns.proofs.Turns.{keeps-by, undoes-by, turned-still, turned-then}
 use Rattle.turns.proofs.Alike.{SameAnswer}
 use Rattle.turns.proofs.Subjects.{Sound, Turning, turned-judges}
-use Rattle.turns.proofs.Triangles.{turn3, six-keeps, triangle-round, triangle-filled}
+use Rattle.turns.proofs.Triangles.{turn3, six-keeps, ten-keeps, triangle-round, triangle-filled}
 use Rattle.turns.proofs.Quads.{turn4, quad-keeps, quad-round, quad-filled}
 use Rattle.turns.proofs.Jacobian.{turned-to}
 use Rattle.turns.proofs.Points.{bad-turned, shows-turned, moved-then}
@@ -39,27 +39,32 @@ abbrev pub turnOf : Kind → Turn
 turnOf six = turn3 degrees6 place6
 turnOf eight = turn4
 turnOf nine = turn4
+turnOf ten = turn3 degrees10 place10
 
 kind-keeps : (k : Kind) → Keeps (shapeOf k) (turnOf k)
 kind-keeps six = six-keeps
 kind-keeps eight = quad-keeps
 kind-keeps nine = quad-keeps
+kind-keeps ten = ten-keeps
 
 kind-sound : (k : Kind) → Sound (shapeOf k)
 kind-sound six = record { lawful = shape-lawful six; read = shape-readable six; filled = triangle-filled 2 degrees6 place6 }
 kind-sound eight = record { lawful = shape-lawful eight; read = shape-readable eight; filled = quad-filled }
 kind-sound nine = record { lawful = shape-lawful nine; read = shape-readable nine; filled = quad-filled }
+kind-sound ten = record { lawful = shape-lawful ten; read = shape-readable ten; filled = triangle-filled 4 degrees10 place10 }
 
 -- a kind has one corner more than this, and as many turns bring all weights back
 abbrev others : Kind → ℕ
 others six = 2
 others eight = 3
 others nine = 3
+others ten = 2
 
 kind-round : (k : Kind) (ws : List Row) → Point (shapeOf k) ws → turnBy (suc (others k)) (turnOf k) .weights ws ≡ ws
 kind-round six = triangle-round 2 degrees6 place6
 kind-round eight = quad-round
 kind-round nine = quad-round
+kind-round ten = triangle-round 4 degrees10 place10
 
 kind-turning : (k : Kind) (m : ℕ) → Turning (shapeOf k) (turnBy m (turnOf k)) (turnBy (m * others k) (turnOf k))
 kind-turning k m =
@@ -81,6 +86,7 @@ pub rows-turned : (k : Kind) (x y : Place k) → TurnedTo k x y → rowsOf k y �
 rows-turned six x y (a, b, c) = rw (a, b, c)
 rows-turned eight x y h = quad-rows x y h
 rows-turned nine x y h = quad-rows x y h
+rows-turned ten x y (a, b, c) = rw (a, b, c)
 
 -- ---- values, from what they mean at places
 pub means-turned : (k : Kind) (f f' : Place k → ℤ) (c c' : List ℤ) → Means k f c

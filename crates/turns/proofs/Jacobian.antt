@@ -14,15 +14,24 @@ use lib.IntN.{ℤ, pos, negℤ, _-ℤ_, +ℤ-idl}
 use lib.ListN.{getD}
 use Rattle.algebra.specs.Expr.{Expr, exprs, var, con, _⊕_, _⊖_}
 use Rattle.algebra.proofs.Solve.{solve}
-use Rattle.element.specs.Kinds.{Kind, six, eight, nine}
+use Rattle.element.specs.Kinds.{Kind, six, eight, nine, ten}
 use Rattle.element.specs.Nodes.{place8}
-use Rattle.element.specs.Places.{InQuad, Place, cube}
+use Rattle.element.specs.Places.{InTriangle, InQuad, Place, square, cube, whole}
+use Rattle.element.specs.Cubic as cubic
+use Rattle.element.specs.Cubic.{J10}
 use Rattle.element.specs.Jacobian.{slopeξ, slopeη, J6, slopeU, slopeV, J9, fourfold8, J8, jacobian, factor}
 use Rattle.element.proofs.Formulas as E
+use Rattle.element.proofs.CubicFormulas as C
 use Rattle.element.proofs.Sums.{nodeE, numbers}
-use Rattle.turns.specs.Numbering.{turnedPlaces, mirroredPlaces, turned, mirrored, QuadTurned, TurnedTo, MirroredTo}
+use Rattle.turns.specs.Numbering.{turnedPlaces, mirroredPlaces, turned, mirrored, TriangleTurned, QuadTurned, TurnedTo, TriangleMirrored, MirroredTo}
 
 -- ---- places
+triangle-to : (x : InTriangle) → (y : InTriangle) × TriangleTurned x y
+triangle-to x = let h = x .some in (record { p = x .q; q = x .r; r = x .p; some = omega arith }, (refl, refl, refl))
+
+triangle-from : (y : InTriangle) → (x : InTriangle) × TriangleTurned x y
+triangle-from y = let h = y .some in (record { p = y .r; q = y .p; r = y .q; some = omega arith }, (refl, refl, refl))
+
 quad-to : (x : InQuad) → (y : InQuad) × QuadTurned x y
 quad-to x = (
   record { p = x .q; m = x .n; q = x .m - x .p; n = x .m; u-below = x .v-below; v-below = omega arith; m-above = x .n-above; n-above = x .m-above },
@@ -37,28 +46,35 @@ quad-from y =
     )
 
 pub turned-to : (k : Kind) (x : Place k) → (y : Place k) × TurnedTo k x y
-turned-to six x = let h = x .some in (record { p = x .q; q = x .r; r = x .p; some = omega arith }, (refl, refl, refl))
+turned-to six x = triangle-to x
 turned-to eight x = quad-to x
 turned-to nine x = quad-to x
+turned-to ten x = triangle-to x
 
 pub turned-from : (k : Kind) (y : Place k) → (x : Place k) × TurnedTo k x y
-turned-from six y = let h = y .some in (record { p = y .r; q = y .p; r = y .q; some = omega arith }, (refl, refl, refl))
+turned-from six y = triangle-from y
 turned-from eight y = quad-from y
 turned-from nine y = quad-from y
+turned-from ten y = triangle-from y
+
+abbrev triangle-over : InTriangle → InTriangle
+triangle-over x = let h = x .some in record { p = x .p; q = x .r; r = x .q; some = omega arith }
 
 abbrev quad-over : InQuad → InQuad
 quad-over x =
     record { p = x .q; m = x .n; q = x .p; n = x .m; u-below = x .v-below; v-below = x .u-below; m-above = x .n-above; n-above = x .m-above }
 
 pub mirrored-to : (k : Kind) (x : Place k) → (y : Place k) × MirroredTo k x y
-mirrored-to six x = let h = x .some in (record { p = x .p; q = x .r; r = x .q; some = omega arith }, (refl, refl, refl))
+mirrored-to six x = (triangle-over x, (refl, refl, refl))
 mirrored-to eight x = (quad-over x, (refl, refl, refl, refl))
 mirrored-to nine x = (quad-over x, (refl, refl, refl, refl))
+mirrored-to ten x = (triangle-over x, (refl, refl, refl))
 
 pub mirrored-from : (k : Kind) (y : Place k) → (x : Place k) × MirroredTo k x y
-mirrored-from six y = let h = y .some in (record { p = y .p; q = y .r; r = y .q; some = omega arith }, (refl, refl, refl))
+mirrored-from six y = (triangle-over y, (refl, refl, refl))
 mirrored-from eight y = (quad-over y, (refl, refl, refl, refl))
 mirrored-from nine y = (quad-over y, (refl, refl, refl, refl))
+mirrored-from ten y = (triangle-over y, (refl, refl, refl))
 
 -- ---- the node that stands at place m of the numbering l; the coordinates are variables from b on
 abbrev standing : ℕ → List ℕ → ℕ → E.Pair Expr
@@ -83,6 +99,23 @@ J6-mirrored : (xs : List ℤ) (p q r : ℕ) → J6 (mirrored six xs) p r q ≡ p
 unfolding J6 slopeξ slopeη
 J6-mirrored xs p q r =
     solve (pos p ∷ pos q ∷ pos r ∷ numbers xs 0 12) (sixE (mirroredPlaces six) (var 0) (var 2) (var 1)) (minus (sixE plain6 (var 0) (var 1) (var 2))) tt
+
+-- ---- ten nodes
+abbrev tenE : List ℕ → Expr → Expr → Expr → Expr
+tenE l p q r = C.J10 exprs (C.R10 exprs (standing 3 l)) p q r
+
+abbrev plain10 : List ℕ
+plain10 = 0 ∷ 1 ∷ 2 ∷ 3 ∷ 4 ∷ 5 ∷ 6 ∷ 7 ∷ 8 ∷ 9 ∷ []
+
+J10-turned : (xs : List ℤ) (p q r : ℕ) → J10 (turned ten xs) q r p ≡ J10 xs p q r
+unfolding J10 cubic.slopeξ cubic.slopeη
+J10-turned xs p q r =
+    solve (pos p ∷ pos q ∷ pos r ∷ numbers xs 0 20) (tenE (turnedPlaces ten) (var 1) (var 2) (var 0)) (tenE plain10 (var 0) (var 1) (var 2)) tt
+
+J10-mirrored : (xs : List ℤ) (p q r : ℕ) → J10 (mirrored ten xs) p r q ≡ pos 0 -ℤ J10 xs p q r
+unfolding J10 cubic.slopeξ cubic.slopeη
+J10-mirrored xs p q r =
+    solve (pos p ∷ pos q ∷ pos r ∷ numbers xs 0 20) (tenE (mirroredPlaces ten) (var 0) (var 2) (var 1)) (minus (tenE plain10 (var 0) (var 1) (var 2))) tt
 
 -- ---- nine nodes; turned: at u = b/(a + b), v = e/n
 abbrev nineE : List ℕ → Expr → Expr → Expr → Expr → Expr
@@ -138,19 +171,29 @@ pub jacobian-turned : (k : Kind) (xs : List ℤ) (x y : Place k) → TurnedTo k 
 jacobian-turned six xs x y (a, b, c) = rw (a, b, c) (J6-turned xs (x .p) (x .q) (x .r))
 jacobian-turned eight xs x y h = quad-turned (J8 xs) (J8 (turned eight xs)) (J8-turned xs) x y h
 jacobian-turned nine xs x y h = quad-turned (J9 xs) (J9 (turned nine xs)) (J9-turned xs) x y h
+jacobian-turned ten xs x y (a, b, c) = rw (a, b, c) (J10-turned xs (x .p) (x .q) (x .r))
 
 pub jacobian-mirrored : (k : Kind) (xs : List ℤ) (x y : Place k) → MirroredTo k x y → jacobian k (mirrored k xs) y ≡ negℤ (jacobian k xs x)
 jacobian-mirrored six xs x y (a, b, c) = rw (a, b, c) (J6-mirrored xs (x .p) (x .q) (x .r)) ∙ +ℤ-idl _
 jacobian-mirrored eight xs x y (a, b, c, d) = rw (a, b, c, d) (J8-mirrored xs (x .p) (x .m) (x .q) (x .n)) ∙ +ℤ-idl _
 jacobian-mirrored nine xs x y (a, b, c, d) = rw (a, b, c, d) (J9-mirrored xs (x .p) (x .m) (x .q) (x .n)) ∙ +ℤ-idl _
+jacobian-mirrored ten xs x y (a, b, c) = rw (a, b, c) (J10-mirrored xs (x .p) (x .q) (x .r)) ∙ +ℤ-idl _
 
 -- ---- the weight of a place
+whole-turned : (x y : InTriangle) → TriangleTurned x y → whole y ≡ whole x
+whole-turned x y (a, b, c) = omega arith
+
+whole-mirrored : (x y : InTriangle) → TriangleMirrored x y → whole y ≡ whole x
+whole-mirrored x y (a, b, c) = omega arith
+
 pub factor-turned : (k : Kind) (x y : Place k) → TurnedTo k x y → factor k y ≡ factor k x
-factor-turned six x y (a, b, c) = let e : y .p + y .q + y .r ≡ x .p + x .q + x .r = omega arith in rw e
+factor-turned six x y h = ap (λ (w : ℕ). 1 * square w) (whole-turned x y h)
 factor-turned eight x y (a, b, c, d) = rw (b, d) (ap (λ (w : ℕ). 16 * w) (N.mul-comm (cube (x .n)) (cube (x .m))))
 factor-turned nine x y (a, b, c, d) = rw (b, d) (ap (λ (w : ℕ). 1 * w) (N.mul-comm (cube (x .n)) (cube (x .m))))
+factor-turned ten x y h = ap (λ (w : ℕ). 16 * square (square w)) (whole-turned x y h)
 
 pub factor-mirrored : (k : Kind) (x y : Place k) → MirroredTo k x y → factor k y ≡ factor k x
-factor-mirrored six x y (a, b, c) = let e : y .p + y .q + y .r ≡ x .p + x .q + x .r = omega arith in rw e
+factor-mirrored six x y h = ap (λ (w : ℕ). 1 * square w) (whole-mirrored x y h)
 factor-mirrored eight x y (a, b, c, d) = rw (b, d) (ap (λ (w : ℕ). 16 * w) (N.mul-comm (cube (x .n)) (cube (x .m))))
 factor-mirrored nine x y (a, b, c, d) = rw (b, d) (ap (λ (w : ℕ). 1 * w) (N.mul-comm (cube (x .n)) (cube (x .m))))
+factor-mirrored ten x y h = ap (λ (w : ℕ). 16 * square (square w)) (whole-mirrored x y h)

@@ -15,7 +15,7 @@ use lib.Signed.{_<ℤ_, clashℤ}
 use Rattle.algebra.specs.Expr.{exprs, con, _⊖_}
 use Rattle.algebra.proofs.Order.{0<pos, <-≤, ≤-of-eq, sub-0<, *ℤ-mono-<, *ℤ-cancel-<}
 use Rattle.algebra.proofs.Solve.{solve}
-use Rattle.element.specs.Kinds.{Kind, six, eight, nine, kindOf, scale}
+use Rattle.element.specs.Kinds.{Kind, six, eight, nine, ten, kindOf, scale}
 use Rattle.element.specs.Places.{Place, OnGrid}
 use Rattle.element.specs.Jacobian.{jacobian, factor, Shows}
 use Rattle.element.specs.Refusals.{Codes, Accepted, Outside, verdictCodes}
@@ -66,6 +66,7 @@ corner-on : (k : Kind) → OnGrid k 0 0 0
 corner-on six = zero-le
 corner-on eight = (zero-le, zero-le)
 corner-on nine = (zero-le, zero-le)
+corner-on ten = zero-le
 
 -- what is shown where J is negative is negative
 shown-negative : (k : Kind) (xs : List ℤ) → ((x : Place k) → jacobian k xs x <ℤ pos 0) → (i j : ℕ) (z : ℤ) → Shows k xs 0 i j z → z <ℤ pos 0

@@ -9,26 +9,35 @@ use Prim.Native.Nat.{ℕ, _-_, _^_}
 use native.Mathlib.Omega.{arith}
 use lib.IntN.{ℤ, pos, _*ℤ_}
 use lib.Signed.{_≤ℤ_}
-use Rattle.element.specs.Kinds.{Kind, six, eight, nine, scale}
-use Rattle.element.specs.Places.{InQuad, Place, QuadAt, AtGrid}
+use Rattle.element.specs.Kinds.{Kind, six, eight, nine, ten, scale}
+use Rattle.element.specs.Places.{InTriangle, InQuad, Place, TriangleAt, QuadAt, AtGrid}
 use Rattle.element.specs.Jacobian.{BadBy, ShowsBy}
-use Rattle.turns.specs.Numbering.{turnedPoint, QuadTurned, TurnedTo}
+use Rattle.turns.specs.Numbering.{turnedPoint, TriangleTurned, QuadTurned, TurnedTo}
 use Rattle.turns.specs.Kept.{Moved}
 use Rattle.turns.proofs.Jacobian.{turned-to, turned-from, factor-turned}
 
 -- ---- places at grid points
+triangle-grid : (d i j : ℕ) (x y : InTriangle) → TriangleAt d i j x → TriangleTurned x y → TriangleAt d j (2 ^ d - i - j) y
+triangle-grid d i j x y (a, b, c) (e, f, g) = (f ∙ b, omega arith, omega arith)
+
 quad-grid : (d i j : ℕ) (x y : InQuad) → QuadAt d i j x → QuadTurned x y → QuadAt d j (2 ^ d - i) y
 quad-grid d i j x y (a, b, c, e) (f, g, h, k) = (f ∙ c, g ∙ e, omega arith, k ∙ b)
 
 pub grid-turned : (k : Kind) (d i j : ℕ) (x y : Place k) → AtGrid k d i j x
     → TurnedTo k x y
     → AtGrid k d (turnedPoint k (2 ^ d) (i, j) .0) (turnedPoint k (2 ^ d) (i, j) .1) y
-grid-turned six d i j x y (a, b, c) (e, f, g) = (f ∙ b, omega arith, omega arith)
+grid-turned six d i j x y h t = triangle-grid d i j x y h t
 grid-turned eight d i j x y h t = quad-grid d i j x y h t
 grid-turned nine d i j x y h t = quad-grid d i j x y h t
+grid-turned ten d i j x y h t = triangle-grid d i j x y h t
 
 pair-≡ : {a b c d : ℕ} → a ≡ c → b ≡ d → _≡_ {A = ℕ × ℕ} (a, b) (c, d)
 pair-≡ e f = cc
+
+triangle-from : (d i' j' : ℕ) (x y : InTriangle) → TriangleAt d i' j' y → TriangleTurned x y
+    → (i : ℕ) × (j : ℕ) × TriangleAt d i j x × (_≡_ {A = ℕ × ℕ} (j, 2 ^ d - i - j) (i', j'))
+triangle-from d i' j' x y (a, b, c) (e, f, g) =
+    (2 ^ d - i' - j', i', (omega arith, omega arith, omega arith), pair-≡ refl (omega arith))
 
 quad-came : (d i' j' : ℕ) (x y : InQuad) → QuadAt d i' j' y → QuadTurned x y → QuadAt d (2 ^ d - j') i' x × (2 ^ d - (2 ^ d - j') ≡ j')
 quad-came d i' j' x y (a, b, c, e) (f, g, h, k) =
@@ -41,10 +50,10 @@ quad-from d i' j' x y h t = let (a, e) = quad-came d i' j' x y h t in (2 ^ d - j
 pub grid-from : (k : Kind) (d i' j' : ℕ) (x y : Place k) → AtGrid k d i' j' y
     → TurnedTo k x y
     → (i : ℕ) × (j : ℕ) × AtGrid k d i j x × (turnedPoint k (2 ^ d) (i, j) ≡ (i', j'))
-grid-from six d i' j' x y (a, b, c) (e, f, g) =
-    (2 ^ d - i' - j', i', (omega arith, omega arith, omega arith), pair-≡ refl (omega arith))
+grid-from six d i' j' x y h t = triangle-from d i' j' x y h t
 grid-from eight d i' j' x y h t = quad-from d i' j' x y h t
 grid-from nine d i' j' x y h t = quad-from d i' j' x y h t
+grid-from ten d i' j' x y h t = triangle-from d i' j' x y h t
 
 -- ---- bad points, by what is read off the nodes
 pub bad-turned : (k : Kind) (f f' : Place k → ℤ) → ((x y : Place k) → TurnedTo k x y → f' y ≡ f x)

@@ -4,7 +4,7 @@
 --   triangle-keeps   : it is a turn of the shape, if its tables pass their tests
 --   triangle-round   : three of them bring all weights back
 --   triangle-filled  : each quarter has all values
---   six-keeps        : the quadratic triangle's tables pass
+--   six-keeps, ten-keeps : the quadratic triangle's tables pass, and the cubic one's
 -- Assumes nothing.
 use mathlib.Core.Path.{_≡_, refl, sym, _∙_, ap, subst}
 use mathlib.Core.Bool.{Bool}
@@ -21,7 +21,7 @@ use Rattle.forms.specs.Forms.{Form, slot, value, through}
 use Rattle.forms.specs.Cells.{stored, dot, Inside, every, same, heirs}
 use Rattle.forms.specs.Cuttings.{Four, first, second, third, fourth}
 use Rattle.forms.specs.Shapes.{Shape, onto, indices, tips, scaled, Heavy, Point}
-use Rattle.forms.specs.Triangles.{cuts, triangle, degrees6, place6, six}
+use Rattle.forms.specs.Triangles.{cuts, triangle, degrees6, place6, six, degrees10, place10, ten}
 use Rattle.forms.proofs.Rows.{weigh-unit}
 use Rattle.forms.proofs.Cells.{every-at, same-eq, getD-quarter}
 use Rattle.forms.proofs.Triangles.{rows3}
@@ -138,3 +138,6 @@ module _ (n : ℕ) (degrees : List Row) (place : List ℕ → ℕ) where
 
 pub six-keeps : Keeps six (turn3 degrees6 place6)
 six-keeps = triangle-keeps 2 degrees6 place6 tt tt
+
+pub ten-keeps : Keeps ten (turn3 degrees10 place10)
+ten-keeps = triangle-keeps 4 degrees10 place10 tt tt

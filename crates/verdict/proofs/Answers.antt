@@ -2,8 +2,9 @@
 --   told-bad, told-valid, told-open : the answer that a walk shows, by the tests of the code
 --   accepted-limit, accepted-bounds : what an accepted call tells of its limit and its element
 --   refuses, succeeds : a refusal and a success
---   kind-six, kind-quad, triangle-accepted, quad-accepted : what the tests of the code tell of the kind
---   triangle-room, triangle-walked : a triangle's walk
+--   triangle-accepted, cubic-accepted, quad-accepted : what the tests of the code tell of the kind
+--   triangle-room, triangle-walked : the walk of a triangle with six nodes
+--   cubic-room, cubic-walked : with ten
 --   quad-room, quad-walked : a quad's walk
 -- Assumes nothing.
 use mathlib.Core.Path.{_≡_, refl, sym, _∙_, ap}
@@ -17,10 +18,13 @@ use lib.Dec.{eqb, lit≤}
 use lib.IntN.{ℤ}
 use Rattle.algebra.specs.Within.{Each}
 use Rattle.algebra.proofs.Within.{each-≤, each-as}
-use Rattle.element.specs.Kinds.{Kind, six, eight, nine, kindOf, greatestLevel}
+use Rattle.forms.specs.Triangles as T
+use Rattle.element.specs.Kinds.{Kind, six, eight, nine, ten, kindOf, greatestLevel}
+use Rattle.element.specs.Cubic.{values10}
 use Rattle.element.specs.Control.{values6, controlValues}
 use Rattle.element.specs.Origin.{Inside}
 use Rattle.element.specs.Refusals.{Accepted, Coded, boundsCodes, verdictCodes}
+use Rattle.element.proofs.Numbers.{kind-six, kind-ten, kind-quad}
 use Rattle.element.proofs.Sizes.{values-size}
 use Rattle.faults.proofs.Limits.{level-quad, accepted-inside}
 use Rattle.quad.specs.Points.{quadKind}
@@ -32,6 +36,7 @@ use Rattle.walks.specs.Elements.{walkOf}
 use Rattle.walks.proofs.Elements.{walk-verdict}
 use Rattle.triangle_walk.specs.Walks.{Room, cellWalk}
 use Rattle.triangle_walk.proofs.Places.{start-room}
+use Rattle.cubic_walk.proofs.Cells as cubic
 use Rattle.quad_walk.specs.Walks as quads
 use Rattle.quad_walk.proofs.Places as quad-places
 use Rattle.verdict.specs.Calls.{given, refusal, VerdictOf}
@@ -65,12 +70,6 @@ module _ (L : ℕ) (w : Walk) where
   pub told-open : w .best .bad ≡ false → ¬ (w .failing ≡ 0) → given (is-undecided L (w .failing)) ≡ given (answer L w)
   told-open e f = good false e (ne-eqb (w .failing) 0 f)
 
-pub kind-six : (n : ℕ) → n ≡ 6 → kindOf n ≡ six
-kind-six n e = rw e refl
-
-pub kind-quad : (n : ℕ) → ¬ (n ≡ 6) → kindOf n ≡ quadKind (eqb n 8)
-kind-quad n h = rw (ne-eqb n 6 h) refl
-
 module _ (n l : ℕ) (xs : List ℤ) where
   pub accepted-limit : Accepted (verdictCodes n l xs) → l ≤ greatestLevel (kindOf n)
   accepted-limit a = N.le-of-suc-le-suc (N.lt-of-not-le (a .1 .0))
@@ -97,9 +96,13 @@ module _ (n l : ℕ) (xs : List ℤ) where
   triangle-accepted e a =
       (rw (kind-six n e) at (accepted-limit a), rw (kind-six n e) at (accepted-inside n xs (accepted-bounds a)))
 
-  pub quad-accepted : ¬ (n ≡ 6) → Accepted (verdictCodes n l xs) → (l ≤ 4) × Inside (quadKind (eqb n 8)) xs
-  quad-accepted h a =
-      (rw (sym (level-quad n h)) at (accepted-limit a), rw (kind-quad n h) at (accepted-inside n xs (accepted-bounds a)))
+  pub cubic-accepted : n ≡ 10 → Accepted (verdictCodes n l xs) → (l ≤ 5) × Inside ten xs
+  cubic-accepted e a =
+      (rw (kind-ten n e) at (accepted-limit a), rw (kind-ten n e) at (accepted-inside n xs (accepted-bounds a)))
+
+  pub quad-accepted : ¬ (n ≡ 6) → ¬ (n ≡ 10) → Accepted (verdictCodes n l xs) → (l ≤ 4) × Inside (quadKind (eqb n 8)) xs
+  quad-accepted h k a =
+      (rw (sym (level-quad n h k)) at (accepted-limit a), rw (kind-quad n h k) at (accepted-inside n xs (accepted-bounds a)))
 
 -- ---- a triangle's walk
 triangle-small : (xs : List ℤ) → Inside six xs → Each 4398046511104 (controlValues six xs)
@@ -108,15 +111,32 @@ triangle-small xs h = each-≤ (values-size six xs h) (lit≤ tt)
 pub triangle-room : (n : ℕ) (xs : List ℤ) {c : List ℤ} → n ≤ 10
     → Inside six xs
     → c ≡ values6 xs
-    → Room n 0 0 0 true c
+    → Room T.six n 0 0 0 true c
 unfolding controlValues
 triangle-room n xs {c} h k e = start-room n c h (each-as e (triangle-small xs k))
 
 pub triangle-walked : (n : ℕ) (xs : List ℤ) {c : List ℤ} {w : Walk} → c ≡ values6 xs
-    → w ≡ cellWalk n 0 n 0 0 true c
+    → w ≡ cellWalk T.six n 0 n 0 0 true c
     → w ≡ walkOf six n (controlValues six xs)
 unfolding controlValues
 triangle-walked n xs e f = f ∙ ap (λ (c : List ℤ). walkOf six n c) e
+
+-- ---- with ten nodes
+cubic-small : (xs : List ℤ) → Inside ten xs → Each 4398046511104 (controlValues ten xs)
+cubic-small xs h = each-≤ (values-size ten xs h) (lit≤ tt)
+
+pub cubic-room : (n : ℕ) (xs : List ℤ) {c : List ℤ} → n ≤ 5
+    → Inside ten xs
+    → c ≡ values10 xs
+    → Room T.ten n 0 0 0 true c
+unfolding controlValues
+cubic-room n xs {c} h k e = cubic.start-room n c h (each-as e (cubic-small xs k))
+
+pub cubic-walked : (n : ℕ) (xs : List ℤ) {c : List ℤ} {w : Walk} → c ≡ values10 xs
+    → w ≡ cellWalk T.ten n 0 n 0 0 true c
+    → w ≡ walkOf ten n (controlValues ten xs)
+unfolding controlValues
+cubic-walked n xs e f = f ∙ ap (λ (c : List ℤ). walkOf ten n c) e
 
 -- ---- a quad's walk, two halvings for each cut
 half-of : (n : ℕ) → 2 * n / 2 ≡ n

@@ -2,7 +2,7 @@
 --   collapsed-refused : an element with no other fault and two corners at one place has 21, with zeros in all other fields
 --   refused-collapsed : and 21 is given for nothing else
 --   answered-apart    : so the corners of an element that has a verdict differ
---   diagonals-called  : the two quads that would be valid have 21 under every limit of their kind
+--   diagonals-called, looped-called : the two quads, and the ten-node triangle, that would be valid have 21 under every limit of their kind
 -- Over the contract alone. Assumes nothing.
 use mathlib.Core.Path.{_≡_, refl, sym, _∙_, ap}
 use mathlib.Core.List.{List, [], _∷_}
@@ -15,8 +15,8 @@ use Rattle.element.specs.Corners.{Collapsed}
 use Rattle.element.specs.Refusals.{no-more, Refused, AboveLevel, WrongLength, Outside, verdictCodes}
 use Rattle.element.proofs.Refusals.{collapsed-next}
 use Rattle.judge.specs.Elements.{subject}
-use Rattle.judge.specs.Corners.{Quad, diagonals, AllSpurned}
-use Rattle.judge.proofs.Corners.{diagonals-spurned}
+use Rattle.judge.specs.Corners.{Case, diagonals, looped, AllSpurned}
+use Rattle.judge.proofs.Corners.{diagonals-spurned, looped-spurned}
 use Rattle.verdict.specs.Calls.{refusal, VerdictOf}
 use Rattle.verdict.specs.Corners.{AllRefused}
 use Rattle.verdict.specs.declared.Judged.{Judged}
@@ -57,9 +57,12 @@ module _ (n l : ℕ) (xs : List ℤ) (r : Judged) (v : VerdictOf n l xs r) where
   pub answered-apart : r .code ≡ 0 → ¬ Collapsed (kindOf n) xs
   answered-apart e = answered (verdictCodes n l xs) (subject (kindOf n) xs) l r tt v e .accepted .1 .1 .1 .1 .0
 
-all-refused : (qs : List Quad) → AllSpurned qs → AllRefused qs
+all-refused : (qs : List Case) → AllSpurned qs → AllRefused qs
 all-refused [] h = tt
 all-refused (q ∷ qs) h = ((λ L g. refused-called _ L (q .coords) 21 (h .0 .refused L g)), all-refused qs (h .1))
 
 pub diagonals-called : AllRefused diagonals
 diagonals-called = all-refused diagonals diagonals-spurned
+
+pub looped-called : AllRefused looped
+looped-called = all-refused looped looped-spurned

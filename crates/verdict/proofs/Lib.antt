@@ -2,6 +2,7 @@
 pub mod Judging
 pub mod Answers
 pub mod Outcomes
+pub mod Cubic
 pub mod Twelve
 pub mod Corners
 pub mod Shut

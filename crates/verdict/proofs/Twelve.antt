@@ -1,7 +1,7 @@
--- The twelve elements of 01 as answers of the call `verdict`: it answers what the list says, in every field.
+-- The twelve elements of 01, and the ten-node triangles of 02, as answers of the call `verdict`: it answers what the list says, in every field.
 --   accepted-called, element-called : the call of an accepted element has the element's verdict as its answer, and no other
 --   refused-called   : one that the order refuses has that refusal, and no other
---   twelve-called    : the claim, for the whole list
+--   twelve-called, tens-called : the claim, for each list
 -- Assumes nothing.
 use mathlib.Core.Path.{refl, sym, subst}
 use mathlib.Core.List.{List, [], _∷_}
@@ -15,7 +15,9 @@ use Rattle.element.proofs.Tried.{kind-of-nodes, accepts, accepted-kind}
 use Rattle.judge.specs.Verdict.{Answer, Judges}
 use Rattle.judge.specs.Elements.{subject}
 use Rattle.judge.specs.Twelve.{Outcome, judged, refused, Row, twelve, Says, AllHold}
+use Rattle.judge.specs.Tens.{tens}
 use Rattle.judge.proofs.Twelve.{twelve-hold}
+use Rattle.judge.proofs.Tens.{tens-hold}
 use Rattle.verdict.specs.Calls.{given, refusal, VerdictOf, Only}
 use Rattle.verdict.specs.Twelve.{toldOf, AllCalled}
 use Rattle.verdict.proofs.Judging.{refused-told}
@@ -59,3 +61,6 @@ all-called (r ∷ rs) h = (called (r .kind) (r .limit) (r .coords) (r .outcome) 
 
 pub twelve-called : AllCalled twelve
 twelve-called = all-called twelve twelve-hold
+
+pub tens-called : AllCalled tens
+tens-called = all-called tens tens-hold

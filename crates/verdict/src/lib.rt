@@ -3,7 +3,7 @@ use faults::verdict_code;
 use steps::Walk;
 ghost use mathlib.Core.Path.{_≡_};
 ghost use Prim.Native.Nat.{_≤_};
-ghost use Rattle.element.specs.Kinds.{six};
+ghost use Rattle.element.specs.Kinds.{six, ten};
 ghost use Rattle.element.specs.Control.{controlValues};
 ghost use Rattle.element.specs.Origin.{Inside};
 ghost use Rattle.quad.specs.Points.{quadKind};
@@ -98,6 +98,15 @@ fn walk_triangle(coords: &[i32], limit: u32) -> Walk
     triangle_walk::walk_cell(c, limit, 0, limit, 0, 0, true)
 }
 
+// The walk of a ten-node triangle.
+fn walk_cubic(coords: &[i32], limit: u32) -> Walk
+    requires { ⌜ (limit ≤ 5) × Inside ten (now coords) ⌝ }
+    ensures { λ r. ⌜ r ≡ walkOf ten limit (controlValues ten (now (coords .entry))) ⌝ }
+{
+    let c = cubic::values(coords);
+    cubic_walk::walk_cell(&c, limit, 0, limit, 0, 0, true)
+}
+
 // The walk of a quad with eight nodes, or nine: two halvings for each level.
 fn walk_quad(coords: &[i32], eight: bool, limit: u32) -> Walk
     requires { ⌜ (limit ≤ 4) × Inside (quadKind eight) (now coords) ⌝ }
@@ -118,6 +127,9 @@ pub fn verdict(kind: u8, limit: u8, coords: &[i32]) -> Judged
     let levels = limit as u32;
     if kind == 6 {
         return told(walk_triangle(coords, levels), levels);
+    }
+    if kind == 10 {
+        return told(walk_cubic(coords, levels), levels);
     }
     told(walk_quad(coords, kind == 8, levels), levels)
 }

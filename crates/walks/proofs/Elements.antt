@@ -5,8 +5,8 @@
 use mathlib.Core.List.{List}
 use Prim.Native.Nat.{ℕ}
 use lib.IntN.{ℤ}
-use Rattle.forms.specs.Triangles.{degrees6, place6}
-use Rattle.element.specs.Kinds.{Kind, six, eight, nine}
+use Rattle.forms.specs.Triangles.{degrees6, place6, degrees10, place10}
+use Rattle.element.specs.Kinds.{Kind, six, eight, nine, ten}
 use Rattle.element.specs.Cells.{shapeOf}
 use Rattle.element.specs.Control.{controlValues}
 use Rattle.judge.specs.Verdict.{Judges}
@@ -23,6 +23,7 @@ pub charted : (k : Kind) → Charted (shapeOf k) (chartOf k)
 charted six = triangle-charted 2 degrees6 place6
 charted eight = quad-charted
 charted nine = quad-charted
+charted ten = triangle-charted 4 degrees10 place10
 
 pub walk-verdict : (k : Kind) (xs : List ℤ) (L : ℕ) → Judges (subject k xs) L (answer L (walkOf k L (controlValues k xs)))
 walk-verdict k xs L = walk-judges (subject k xs) (element-faithful k xs) (chartOf k) (charted k) L

@@ -16,7 +16,7 @@ returns-2 : tie.Need-returns-2
 returns-2 c = coded-past (λ f. f (c .before .if1 .left)) (coded-here (c .if2 .taken))
 
 list-code-requires : tie.Need-list-code-requires
-list-code-requires c κs = λ f. f .0 (c .before .if1 .left)
+list-code-requires c κs = λ f. f .0 .0 (c .before .if1 .left)
 
 returns-3 : tie.Need-returns-3
 returns-3 c =

@@ -5,7 +5,7 @@ use lib.IntN.{ℤ}
 use mir.Facts.{toZ-ofZ}
 use borrow.Author.Needs.{needs, sfits-of}
 use Rattle.points.specs.Points.{across}
-use Rattle.floor.proofs.Room.{straight-is, nine-wide}
+use Rattle.floor.proofs.Room.{straight-is, ten-wide}
 use Rattle.floor.proofs.straight.Statement.{statement}
 use Rattle.floor.proofs.straight.Tie as tie
 
@@ -18,7 +18,7 @@ coordinates-requires-2 c κs = search needs
 across-requires : tie.Need-across-requires
 across-requires c κs =
     let x = c .before .before .before in let p = x .before .pre in
-    (rw (x .coordinates .ensures) (nine-wide p 0), rw (c .before .before .coordinates2 .ensures) (nine-wide p 1))
+    (rw (x .coordinates .ensures) (ten-wide p 0), rw (c .before .before .coordinates2 .ensures) (ten-wide p 1))
 
 returns : tie.Need-returns
 returns c =

@@ -1,8 +1,13 @@
--- `points::coordinates` meets its contract: the loop keeps that the first k places are filled.
-use mathlib.Core.Path.{refl, _∙_, ap}
-use Prim.Native.Nat.{_+_, _*_, _-_, _≤_, _<_}
+-- `points::coordinates` meets its contract: the loop keeps that the first k places are filled, and the last is filled behind it.
+use mathlib.Core.Path.{_≡_, refl, sym, _∙_, ap, subst}
+use mathlib.Core.Bool.{cond}
+use mathlib.Core.List.{List}
+use Prim.Native.Nat.{ℕ, _+_, _*_, _-_, _≤_, _<_}
 use native.Mathlib.Omega.{arith}
-use borrow.Author.Needs.{sfits-of}
+use borrow.Author.Needs.{needs, sfits-of}
+use borrow.Author.Tests.{lt-ltb}
+use lib.Dec.{ltb, lit<}
+use lib.IntN.{ℤ, pos}
 use mir.Syntax.{w64}
 use mir.Val.{toZ, ofZ}
 use mir.Facts.{toZ-ofZ}
@@ -17,8 +22,15 @@ use Rattle.points.proofs.First.{less-axis}
 use Rattle.points.proofs.coordinates.Statement.{statement}
 use Rattle.points.proofs.coordinates.Tie as tie
 
+-- one of the nine
+among : (xs : List ℤ) (g a k : ℕ) → k < 9 → cond (ltb k 9) (at xs (2 * place g k + a)) (pos 0) ≡ at xs (2 * place g k + a)
+among xs g a k h = ap (λ b. cond b (at xs (2 * place g k + a)) (pos 0)) (lt-ltb k 9 h)
+
+as-far : {m n : ℕ} {f : ℕ → ℤ} {l : List ℤ} → m ≡ n → Filled 10 m f l → Filled 10 n f l
+as-far {f = f} {l = l} e p = subst (λ n. Filled 10 n f l) e p
+
 abbrev Inv-loop : tie.InvT-loop
-Inv-loop xs gap axis from c₀ k₀ c k = (k ≤ 9) × Filled 9 k (λ m. at (fromFirst xs) (2 * place gap m + axis)) c
+Inv-loop xs gap axis from c₀ k₀ c k = (k ≤ 9) × Filled 10 k (λ m. cond (ltb m 9) (at (fromFirst xs) (2 * place gap m + axis)) (pos 0)) c
 
 abbrev μ-loop : tie.MeasureT-loop
 μ-loop xs gap axis from c₀ k₀ c k = 9 - k
@@ -27,7 +39,7 @@ coord-requires : tie.Need-coord-requires Inv-loop μ-loop
 coord-requires c κs = tt
 
 loop-holds : tie.Need-loop-holds Inv-loop μ-loop
-loop-holds c = (omega arith, fill-start _ 9 _ refl)
+loop-holds c = (omega arith, fill-start _ 10 _ refl)
 
 place-requires : tie.Need-place-requires Inv-loop μ-loop
 place-requires c κs = c .before .before .before .pre .0
@@ -62,11 +74,17 @@ loop-again c =
     let e = c .less .ensures .0
     ∙ ap (λ m. less v (2 * m + a) (toZ w64 (ofZ w64 (turn .before .coord .result)))) (c .before .place .ensures)
     ∙ ap (less v (2 * place (start .args .gap) (turn .loop .k) + a)) (rd (first .1 .0) tt .same ∙ first .0)
-    ∙ less-axis v (place (start .args .gap) (turn .loop .k)) a (start .pre .1) in
+    ∙ less-axis v (place (start .args .gap) (turn .loop .k)) a (start .pre .1)
+    ∙ sym (among (fromFirst v) (start .args .gap) a (turn .loop .k) (omega arith)) in
     (omega arith, fill-more (turn .loop .inv .1) (omega arith) (toZ-ofZ (sfits-of (c .less .ok)) ∙ e))
 
+array-set-of-c : tie.Need-array-set-of-c Inv-loop μ-loop
+array-set-of-c c = search needs
+
 returns : tie.Need-returns Inv-loop μ-loop
-returns c = fill-end (c .before .loop .inv .1) (omega arith)
+returns c =
+    let e : c .before .loop .k ≡ 9 = omega arith in
+    fill-end (fill-more (as-far e (c .before .loop .inv .1)) (lit< tt) refl) refl
 
 pub coordinates-spec : {M : Type 1} → statement M
 coordinates-spec =
@@ -85,4 +103,5 @@ coordinates-spec =
     add-k
     loop-less
     loop-again
+    array-set-of-c
     returns)

@@ -5,10 +5,10 @@ use Prim.Native.Nat.{ℕ}
 use native.Mathlib.Omega.{arith}
 use lib.IntN.{ℤ}
 use Rattle.points.specs.Points.{coordinates}
-use Rattle.points.proofs.Points.{coordinates-nine}
+use Rattle.points.proofs.Points.{coordinates-ten}
 use Rattle.quad.specs.Points.{points9, combine9}
 use Rattle.element.specs.Origin.{fromFirst}
-use Rattle.quad.proofs.Points.{gap-pos, quad-first, points9-nine}
+use Rattle.quad.proofs.Points.{gap-pos, quad-first, points9-ten}
 use Rattle.quad.proofs.Formula.{combine9-is}
 use borrow.Author.Needs.{needs}
 use Rattle.quad.proofs.values.Statement.{statement}
@@ -32,7 +32,7 @@ coordinates-requires c κs = rw (c .gap .ensures) (gap-pos (c .before .args .eig
 points9-requires : tie.Need-points9-requires
 points9-requires c κs =
     let c2 = c .before .before in let c3 = c2 .before in
-    rw (c .before .coordinates .ensures) (coordinates-nine (quad-first (c3 .args .eight) (c3 .pre)) (c2 .gap .result) 0)
+    rw (c .before .coordinates .ensures) (coordinates-ten (quad-first (c3 .args .eight) (c3 .pre)) (c2 .gap .result) 0)
 
 -- src/lib.rt:153:22
 coordinates-requires-2 : tie.Need-coordinates-requires-2
@@ -44,7 +44,7 @@ coordinates-requires-2 c κs =
 points9-requires-2 : tie.Need-points9-requires-2
 points9-requires-2 c κs =
     let c5 = c .before .before .before .before .before in let c6 = c5 .before in
-    rw (c .before .coordinates2 .ensures) (coordinates-nine (quad-first (c6 .args .eight) (c6 .pre)) (c5 .gap .result) 1)
+    rw (c .before .coordinates2 .ensures) (coordinates-ten (quad-first (c6 .args .eight) (c6 .pre)) (c5 .gap .result) 1)
 
 -- src/lib.rt:154:5
 combine-requires : tie.Need-combine-requires
@@ -52,8 +52,8 @@ combine-requires c κs =
     let c2 = c .before .before in let c4 = c2 .before .before in let c5 = c4 .before in let c7 = c5 .before .before in
     let c8 = c7 .before in let c9 = c8 .before in
     let g = c8 .gap .result in (
-      rw (c5 .points9 .ensures, c7 .coordinates .ensures) (points9-nine (coordinates-nine (quad-first (c9 .args .eight) (c9 .pre)) g 0) (c9 .args .eight)),
-      rw (c2 .points92 .ensures, c4 .coordinates2 .ensures) (points9-nine (coordinates-nine (quad-first (c9 .args .eight) (c9 .pre)) g 1) (c9 .args .eight)),
+      rw (c5 .points9 .ensures, c7 .coordinates .ensures) (points9-ten (coordinates-ten (quad-first (c9 .args .eight) (c9 .pre)) g 0) (c9 .args .eight)),
+      rw (c2 .points92 .ensures, c4 .coordinates2 .ensures) (points9-ten (coordinates-ten (quad-first (c9 .args .eight) (c9 .pre)) g 1) (c9 .args .eight)),
     )
 
 -- src/lib.rt:147:1

@@ -4,7 +4,7 @@ use borrow.Author.Needs.{needs}
 use borrow.Author.Tests.{not-true, not-false}
 use Prim.Native.Nat.{ℕ, _≤_, _<_}
 use native.Mathlib.Nat as N
-use Rattle.element.specs.Kinds.{NotKind, kindOf}
+use Rattle.element.specs.Kinds.{NotStored, kindOf}
 use Rattle.element.specs.Refusals.{no-more, AboveLevel, Accepted, nodeCodes}
 use Rattle.element.proofs.Refusals.{coded-some, coded-none, coded-here, coded-past, coded-end, coded-first, coded-then}
 use Rattle.element.proofs.Ranges.{each-inside}
@@ -31,10 +31,10 @@ abbrev level : tie.Else3 → tie.Else2
 level c = c .before .before
 
 -- what each test that was passed says of it
-kind-known : (c : tie.Else1) → ¬ NotKind (stored (c .before .before) .kind)
+kind-known : (c : tie.Else1) → ¬ NotStored (stored (c .before .before) .kind)
 kind-known c =
     let r = c .before .before .before in
-    rw (r .read-record .ensures) at (c .before .known .ensures .0 (not-false (c .before .known .result) (c .if1 .left)))
+    rw (r .read-record .ensures) at (c .before .stored .ensures .0 (not-false (c .before .stored .result) (c .if1 .left)))
 
 level-allowed : (c : tie.Else2) → let r = stored (read c) in ¬ AboveLevel (kindOf (r .kind)) (r .limit)
 level-allowed c =
@@ -68,13 +68,13 @@ nodes c =
 read-record-requires : tie.Need-read-record-requires
 read-record-requires c κs = search needs
 
-known-requires : tie.Need-known-requires
-known-requires c κs = search needs
+stored-requires : tie.Need-stored-requires
+stored-requires c κs = search needs
 
 returns : tie.Need-returns
 returns c =
     let r = c .before .before .before in
-    coded-here (rw (r .read-record .ensures) at (c .before .known .ensures .1 (not-true (c .before .known .result) (c .if1 .taken))))
+    coded-here (rw (r .read-record .ensures) at (c .before .stored .ensures .1 (not-true (c .before .stored .result) (c .if1 .taken))))
 
 greatest-level-requires : tie.Need-greatest-level-requires
 greatest-level-requires c κs = search needs
@@ -152,7 +152,7 @@ fault-spec =
     tie.close
     (tie.spec
     read-record-requires
-    known-requires
+    stored-requires
     returns
     greatest-level-requires
     returns-2

@@ -7,13 +7,14 @@ use lib.IntN.{ℤ}
 use lib.ListN.{length, take}
 use lib.Seq.{length-take-le}
 use borrow.Author.Needs.{needs}
-use Rattle.element.specs.Kinds.{NotKind}
+use Rattle.element.specs.Kinds.{NotStored}
+use Rattle.element.proofs.Stored.{stored-kind}
 use Rattle.record.proofs.Known.{known-small}
 use Rattle.record.proofs.used_code.Statement.{statement}
 use Rattle.record.proofs.used_code.Tie as tie
 
 -- nine pairs are enough for every kind
-long : (n : ℕ) (v : List ℤ) → ¬ NotKind n → length v ≡ 18 → length (take (2 * n) v) ≡ 2 * n
+long : (n : ℕ) (v : List ℤ) → ¬ NotStored n → length v ≡ 18 → length (take (2 * n) v) ≡ 2 * n
 long n v f e = let few = known-small n f in length-take-le (2 * n) v (omega (arith, few, e))
 
 array-share-prefix-coords : tie.Need-array-share-prefix-coords
@@ -26,7 +27,7 @@ slice-aggregate-node-code c =
 node-code-requires : tie.Need-node-code-requires
 node-code-requires c κs =
     let l : length (c .before .before .args .t1) ≡ 18 = search needs in
-    (subst (λ n. ¬ NotKind n) (c .before .if1 .taken) (c .before .before .pre), length-take-le 12 (c .before .before .args .t1) (omega arith))
+    (stored-kind (subst (λ n. ¬ NotStored n) (c .before .if1 .taken) (c .before .before .pre)), length-take-le 12 (c .before .before .args .t1) (omega arith))
 
 returns : tie.Need-returns
 returns c = rw (c .before .before .if1 .taken) (c .node-code .ensures)
@@ -41,7 +42,7 @@ slice-aggregate-node-code-2 : tie.Need-slice-aggregate-node-code-2
 slice-aggregate-node-code-2 c = sym (long _ (c .before .before .args .t1) (c .before .before .pre) (search needs))
 
 node-code-requires-2 : tie.Need-node-code-requires-2
-node-code-requires-2 c κs = (c .before .before .pre, long _ (c .before .before .args .t1) (c .before .before .pre) (search needs))
+node-code-requires-2 c κs = (stored-kind (c .before .before .pre), long _ (c .before .before .args .t1) (c .before .before .pre) (search needs))
 
 returns-2 : tie.Need-returns-2
 returns-2 c = c .node-code2 .ensures

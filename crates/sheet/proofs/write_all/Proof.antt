@@ -7,7 +7,7 @@ use Rattle.sheet.proofs.write_all.Tie as tie
 
 values-requires : tie.Need-values-requires
 values-requires c κs =
-    let start = c .before in let a = start .args in values-inside (a .kind) (a .limit) (a .coords .now) (start .pre)
+    let start = c .before in let a = start .args in (start .pre .0, values-inside (a .kind) (a .limit) (a .coords .now) (start .pre))
 
 slice-aggregate-word : tie.Need-slice-aggregate-word
 slice-aggregate-word c = search needs
@@ -26,8 +26,8 @@ same-length c = search needs
 returns : tie.Need-returns
 returns c =
     let cell = c .before .before in let head = cell .before .before .before .before in
-    let vs = head .before .before .before in let a = vs .before .before .args in
-    wrote-sheet (a .kind) (a .limit) (a .coords .now) (vs .values .result) (vs .values .ensures) (head .word .ensures) (cell .cell .ensures)
+    let vs = head .before .before .before in let start = vs .before .before in let a = start .args in
+    wrote-sheet (a .kind) (a .limit) (a .coords .now) (vs .values .result) (start .pre .0) (vs .values .ensures) (head .word .ensures) (cell .cell .ensures)
 
 pub write-all-spec : {M : Type 1} → statement M
 write-all-spec =

@@ -2,8 +2,8 @@
 use mathlib.Core.Path.{_∙_, ap, ap₂}
 use Rattle.triangle.specs.Points.{points6, combine6}
 use Rattle.element.proofs.Origin.{inside-first}
-use Rattle.points.proofs.Points.{coordinates-nine}
-use Rattle.triangle.proofs.Points.{points6-nine, combine6-is}
+use Rattle.points.proofs.Points.{coordinates-ten}
+use Rattle.triangle.proofs.Points.{points6-ten, combine6-is}
 use borrow.Author.Needs.{needs}
 use Rattle.triangle.proofs.values.Statement.{statement}
 use Rattle.triangle.proofs.values.Tie as tie
@@ -14,7 +14,7 @@ coordinates-requires c κs = search needs
 
 -- src/lib.rt:48:13
 points6-requires : tie.Need-points6-requires
-points6-requires c κs = rw (c .before .coordinates .ensures) (coordinates-nine (inside-first (c .before .before .pre)) 9 0)
+points6-requires c κs = rw (c .before .coordinates .ensures) (coordinates-ten (inside-first (c .before .before .pre)) 9 0)
 
 -- src/lib.rt:49:22
 coordinates-requires-2 : tie.Need-coordinates-requires-2
@@ -22,7 +22,7 @@ coordinates-requires-2 c κs = search needs
 
 -- src/lib.rt:49:13
 points6-requires-2 : tie.Need-points6-requires-2
-points6-requires-2 c κs = rw (c .before .coordinates2 .ensures) (coordinates-nine (inside-first (c .before .before .before .before .before .pre)) 9 1)
+points6-requires-2 c κs = rw (c .before .coordinates2 .ensures) (coordinates-ten (inside-first (c .before .before .before .before .before .pre)) 9 1)
 
 -- src/lib.rt:50:5
 combine-requires : tie.Need-combine-requires
@@ -30,8 +30,8 @@ combine-requires c κs =
     let c2 = c .before .before in let c4 = c2 .before .before in let c5 = c4 .before in let c7 = c5 .before .before in
     let c8 = c7 .before in
     let p = inside-first (c8 .pre) in (
-      rw (c5 .points6 .ensures, c7 .coordinates .ensures) (points6-nine (coordinates-nine p 9 0)),
-      rw (c2 .points62 .ensures, c4 .coordinates2 .ensures) (points6-nine (coordinates-nine p 9 1)),
+      rw (c5 .points6 .ensures, c7 .coordinates .ensures) (points6-ten (coordinates-ten p 9 0)),
+      rw (c2 .points62 .ensures, c4 .coordinates2 .ensures) (points6-ten (coordinates-ten p 9 1)),
     )
 
 -- src/lib.rt:44:1

@@ -5,7 +5,7 @@ use lib.IntN.{pos}
 use lib.ListN.{getD}
 use mir.Syntax.{w64}
 use mir.Val.{toZ, ofZ}
-use Rattle.triangle_cuts.specs.Corners.{firstBad}
+use Rattle.corners.specs.Triangles.{firstBad}
 use Rattle.triangle_cuts.proofs.first_bad.Statement.{statement}
 use Rattle.triangle_cuts.proofs.first_bad.Tie as tie
 

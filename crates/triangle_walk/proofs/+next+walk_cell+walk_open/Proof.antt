@@ -7,12 +7,15 @@ use native.Mathlib.Omega.{arith}
 use borrow.Author.Tests.{not-true, not-false}
 use lib.Dec.{leb, lit<, lit≤}
 use Rattle.forms.specs.Cuttings.{first, second, third, fourth}
-use Rattle.forms.specs.Triangles.{six}
+use Rattle.forms.specs.Triangles.{six, degrees6, place6}
+use Rattle.forms.proofs.Triangles.{six-lawful}
 use Rattle.steps.specs.Steps.{merge, lowered}
 use Rattle.walks.specs.Room.{Few}
 use Rattle.walks.specs.Triangles.{triangleChart}
 use Rattle.walks.proofs.Cases.{passed, next-passed, open-kept, open-cut, cuts-left}
 use Rattle.walks.proofs.Room.{few-le, few-sums, few-more}
+use Rattle.walks.proofs.Charts.{Charted}
+use Rattle.walks.proofs.Triangles.{triangle-charted}
 use Rattle.triangle_walk.specs.Walks.{Room, ahead, corners, cellWalk}
 use Rattle.triangle_walk.proofs.Places.{cut-room, room-x, room-y, quarter-room}
 use Rattle.triangle_walk.proofs.Quarters.{first-corner, quarterWalk, quarter-is, next-is, quarters-are, cell-few, quarter-few, more-few}
@@ -39,6 +42,9 @@ use Rattle.triangle_cuts.proofs.by_sums.split.Reads as split-reads
 use Rattle.triangle_walk.proofs.ahead.Reads as ahead-reads
 use Rattle.triangle_walk.proofs.+next+walk_cell+walk_open.{statement}
 use Rattle.triangle_walk.proofs.+next+walk_cell+walk_open.Tie.{close}
+
+charted : Charted six triangleChart
+charted = triangle-charted 2 degrees6 place6
 
 abbrev μ-next : Measures 0 next-kinds.ps ℕ
 μ-next κs a = 2 * a .1 .1 .0 + 1
@@ -132,7 +138,7 @@ Begun t = walk-open-lts.Start (E-walk-open t) (walk-open-at t) walk-open.Post
 abbrev start : (t : ℕ) → Cut t → Begun t
 start t e = e .before .before .before .before
 
-abbrev room : (t : ℕ) (e : Cut t) → let a = start t e .args in Room (a .left) (a .level) (a .i) (a .j) (a .up) (a .c)
+abbrev room : (t : ℕ) (e : Cut t) → let a = start t e .args in Room six (a .left) (a .level) (a .i) (a .j) (a .up) (a .c)
 room t e = start t e .pre .1 .1
 
 some-left : (t : ℕ) (e : Cut t) → 0 < start t e .args .left
@@ -168,13 +174,13 @@ three-is t c =
     next-is (room t e) third (start t e .args .stop) (q .next .result) (c .before .split3 .ensures) refl (middle-y t e) (c .next2 .ensures)
 
 one-few : (t : ℕ) (c : One t) → Few 1048576 (c .walk-cell .result)
-one-few t c = quarter-few (room t (c .before .before)) first _ (one-is t c)
+one-few t c = quarter-few (room t (c .before .before)) charted first _ (one-is t c)
 
 two-few : (t : ℕ) (c : Two t) → Few 2097152 (c .next .result)
-two-few t c = let p = c .before .before in more-few (room t (p .before .before)) second _ (one-few t p) (two-is t c)
+two-few t c = let p = c .before .before in more-few (room t (p .before .before)) charted second _ (one-few t p) (two-is t c)
 
 three-few : (t : ℕ) (c : Three t) → Few 3145728 (c .next2 .result)
-three-few t c = let q = c .before .before in more-few (room t (q .before .before .before .before)) third _ (two-few t q) (three-is t c)
+three-few t c = let q = c .before .before in more-few (room t (q .before .before .before .before)) charted third _ (two-few t q) (three-is t c)
 
 -- ---- a cell after a walk
 next-lowered-requires : (t : ℕ) → next-lts.Need-lowered-requires (E-next t) (next-at t) next.Post
@@ -200,13 +206,13 @@ next-walk-open-requires t c κs =
 next-merge-requires : (t : ℕ) → next-lts.Need-merge-requires (E-next t) (next-at t) next.Post
 next-merge-requires t c κs =
     let start = c .before .before .before .before in
-    few-sums (start .pre .1 .0) (cell-few _ (start .pre .1 .1) (c .walk-open .ensures)) tt
+    few-sums (start .pre .1 .0) (cell-few charted _ (start .pre .1 .1) (c .walk-open .ensures)) tt
 
 next-returns-2 : (t : ℕ) → next-lts.Need-returns-2 (E-next t) (next-at t) next.Post
 next-returns-2 t c =
     let walked = c .before in let limited = walked .before .before .before in let a = limited .before .args in
     c .merge .ensures ∙ ap (merge (a .w)) (walked .walk-open .ensures
-    ∙ ap (λ (s : ℕ). cellWalk (a .left) (a .level) s (a .i) (a .j) (a .up) (a .c)) (limited .lowered .ensures))
+    ∙ ap (λ (s : ℕ). cellWalk six (a .left) (a .level) s (a .i) (a .j) (a .up) (a .c)) (limited .lowered .ensures))
 
 -- ---- a cell
 walk-cell-passes-requires : (t : ℕ) → walk-cell-lts.Need-passes-requires (E-walk-cell t) (walk-cell-at t) walk-cell.Post
@@ -254,7 +260,7 @@ walk-open-returns t c =
     open-kept six triangleChart (a .level) (a .stop) (corners (a .i) (a .j) (a .up)) (a .c) (a .left) (start .pre .1 .0)
     (tested .corners-positive .ensures) (bad .before .if1 .taken)
     (bad .first-bad .ensures ∙ rw (tested .before .before .ahead .ensures, tested .before .ahead2 .ensures)
-    (first-corner (a .level) (corners (a .i) (a .j) (a .up)) (a .c)))
+    (first-corner 2 degrees6 place6 (a .level) (corners (a .i) (a .j) (a .up)) (a .c)))
     (c .leaf .ensures)
 
 walk-open-sub-n : (t : ℕ) → walk-open-lts.Need-sub-n (E-walk-open t) (walk-open-at t) walk-open.Post
@@ -276,35 +282,35 @@ walk-open-add-jy : (t : ℕ) → walk-open-lts.Need-add-jy (E-walk-open t) (walk
 walk-open-add-jy t c = omega (arith, middle-y t c, room-y (room t c) .here, room-y (room t c) .there)
 
 walk-open-split-requires : (t : ℕ) → walk-open-lts.Need-split-requires (E-walk-open t) (walk-open-at t) walk-open.Post
-walk-open-split-requires t c κs = (lit< tt, cut-room (room t c) (some-left t c))
+walk-open-split-requires t c κs = (lit< tt, cut-room (room t c) 1152921504606846976 (lit< tt) refl (some-left t c))
 
 walk-open-walk-cell-requires : (t : ℕ) → walk-open-lts.Need-walk-cell-requires (E-walk-open t) (walk-open-at t) walk-open.Post
 walk-open-walk-cell-requires t c κs =
-    let e = c .before in (fewer t e, quarter-room (room t e) first (some-left t e) (c .split .ensures) refl refl)
+    let e = c .before in (fewer t e, quarter-room (room t e) six-lawful first (some-left t e) (c .split .ensures) refl refl)
 
 walk-open-split-requires-2 : (t : ℕ) → walk-open-lts.Need-split-requires-2 (E-walk-open t) (walk-open-at t) walk-open.Post
-walk-open-split-requires-2 t c κs = let e = c .before .before in (lit< tt, cut-room (room t e) (some-left t e))
+walk-open-split-requires-2 t c κs = let e = c .before .before in (lit< tt, cut-room (room t e) 1152921504606846976 (lit< tt) refl (some-left t e))
 
 walk-open-next-requires : (t : ℕ) → walk-open-lts.Need-next-requires (E-walk-open t) (walk-open-at t) walk-open.Post
 walk-open-next-requires t c κs =
     let p = c .before in let e = p .before .before in
-    (fewer t e, (few-le (one-few t p) (lit≤ tt), quarter-room (room t e) second (some-left t e) (c .split2 .ensures) (middle-x t e) refl))
+    (fewer t e, (few-le (one-few t p) (lit≤ tt), quarter-room (room t e) six-lawful second (some-left t e) (c .split2 .ensures) (middle-x t e) refl))
 
 walk-open-split-requires-3 : (t : ℕ) → walk-open-lts.Need-split-requires-3 (E-walk-open t) (walk-open-at t) walk-open.Post
-walk-open-split-requires-3 t c κs = let e = c .before .before .before .before in (lit< tt, cut-room (room t e) (some-left t e))
+walk-open-split-requires-3 t c κs = let e = c .before .before .before .before in (lit< tt, cut-room (room t e) 1152921504606846976 (lit< tt) refl (some-left t e))
 
 walk-open-next-requires-2 : (t : ℕ) → walk-open-lts.Need-next-requires-2 (E-walk-open t) (walk-open-at t) walk-open.Post
 walk-open-next-requires-2 t c κs =
     let q = c .before in let e = q .before .before .before .before in
-    (fewer t e, (few-le (two-few t q) (lit≤ tt), quarter-room (room t e) third (some-left t e) (c .split3 .ensures) refl (middle-y t e)))
+    (fewer t e, (few-le (two-few t q) (lit≤ tt), quarter-room (room t e) six-lawful third (some-left t e) (c .split3 .ensures) refl (middle-y t e)))
 
 walk-open-split-requires-4 : (t : ℕ) → walk-open-lts.Need-split-requires-4 (E-walk-open t) (walk-open-at t) walk-open.Post
-walk-open-split-requires-4 t c κs = let e = c .before .before .before .before .before .before in (lit< tt, cut-room (room t e) (some-left t e))
+walk-open-split-requires-4 t c κs = let e = c .before .before .before .before .before .before in (lit< tt, cut-room (room t e) 1152921504606846976 (lit< tt) refl (some-left t e))
 
 walk-open-next-requires-3 : (t : ℕ) → walk-open-lts.Need-next-requires-3 (E-walk-open t) (walk-open-at t) walk-open.Post
 walk-open-next-requires-3 t c κs =
     let r = c .before in let e = r .before .before .before .before .before .before in
-    (fewer t e, (three-few t r, quarter-room (room t e) fourth (some-left t e) (c .split4 .ensures) (middle-x t e) (middle-y t e)))
+    (fewer t e, (three-few t r, quarter-room (room t e) six-lawful fourth (some-left t e) (c .split4 .ensures) (middle-x t e) (middle-y t e)))
 
 walk-open-returns-2 : (t : ℕ) → walk-open-lts.Need-returns-2 (E-walk-open t) (walk-open-at t) walk-open.Post
 walk-open-returns-2 t c =

@@ -1,0 +1,3 @@
+-- Lines of values, and the values of a cell by their names.
+pub mod Lines
+pub mod Cells

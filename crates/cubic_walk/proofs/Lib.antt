@@ -1,0 +1,2 @@
+-- The walk over the cells of a ten-node triangle, step by step.
+pub mod Cells

@@ -1,0 +1,2 @@
+-- What is read of a record.
+pub mod Records

@@ -1,2 +1,0 @@
--- The corners of a triangle cell.
-pub mod Corners
