@@ -4,10 +4,13 @@
 --   and-true, and-assoc : a conjunction with what holds, and of three
 --   T-true, true-T : a test that holds is true; T-false, false-T, false-not: one that does not is false
 --   cond-ind       : by cases on what a test picks
+--   not-not        : two numbers that are not different are the same
 -- Assumes nothing.
 use mathlib.Core.Path.{_≡_, refl}
 use mathlib.Core.Bool.{Bool, true, false, not, cond, _&&_, _||_}
-use lib.Dec.{T}
+use Prim.Native.Nat.{ℕ}
+use borrow.Author.Tests.{eqb-true, eqb-false}
+use lib.Dec.{T, eqb}
 
 pub T-and : (a b : Bool) → T (a && b) → T a × T b
 T-and true b t = (tt, t)
@@ -49,3 +52,10 @@ false-T false f = refl
 pub cond-ind {ℓ} : {A : Type 0} (c : Bool) (x y : A) (P : A → Type ℓ) → (T c → P x) → (T (not c) → P y) → P (cond c x y)
 cond-ind true x y P f g = f tt
 cond-ind false x y P f g = g tt
+
+pub not-not : (m n : ℕ) → ¬ (¬ (m ≡ n)) → m ≡ n
+not-not m n f = go (eqb m n) (eqb-true m n) (eqb-false m n)
+  where
+    go : (b : Bool) → (b ≡ true → m ≡ n) → (b ≡ false → ¬ (m ≡ n)) → m ≡ n
+    go true p q = p refl
+    go false p q = absurd (f (q refl))

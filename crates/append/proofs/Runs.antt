@@ -18,10 +18,11 @@ use native.Mathlib.Decide.{decLe}
 use lib.IntN.{ℤ}
 use lib.ListN.{length, take, drop, length-append, List·getD-append}
 use lib.Seq.{take-at, drop-at, length-take-le, getD-append-seam}
+use Rattle.algebra.proofs.Truth.{not-not}
 use Rattle.endian.specs.Numbers.{over}
 use Rattle.record.specs.declared.Record.{Record}
 use Rattle.record.specs.Record.{used, WellFormed, recordBytes, blank}
-use Rattle.record.proofs.Known.{not-not, known-small}
+use Rattle.record.proofs.Known.{known-small}
 use Rattle.record.proofs.Codec.{record-length}
 use Rattle.signs.specs.Signs.{Differs}
 use Rattle.signs.proofs.Kept.{unsigned-kept}

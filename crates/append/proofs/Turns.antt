@@ -8,9 +8,10 @@ use Prim.Native.Nat.{ℕ, _*_, _≤_}
 use native.Mathlib.Omega.{arith}
 use lib.IntN.{ℤ}
 use lib.ListN.{length}
+use Rattle.algebra.proofs.Truth.{not-not}
 use Rattle.element.specs.Refusals.{Accepted, storedCodes}
 use Rattle.record.specs.Record.{recordBytes}
-use Rattle.record.proofs.Known.{not-not, known-small}
+use Rattle.record.proofs.Known.{known-small}
 use Rattle.record.proofs.Codec.{numbers-length}
 use Rattle.append.specs.Append.{padded}
 use Rattle.append.specs.Series.{Given, given}

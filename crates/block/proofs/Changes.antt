@@ -3,7 +3,9 @@
 --   version-holds   : which is a block where no record is signed
 --   version-back    : and with the version that it had they are the same again
 --   replaced-this, replaced-other : the records of a list of which record k is another
---   replaced-bytes  : bytes written into record k leave the block of such a list
+--   over-behind     : bytes written behind the front of a list
+--   replaced-by     : what makes of record k's bytes, wherever they stand, those of another record leaves the block of such a list
+--   replaced-bytes  : and so do bytes written into record k
 --   replaced-holds  : which is a block, where the new record may stand there
 --   sign-bytes, limit-bytes : the two bytes of the sign, and the byte of the level limit
 --   sign-same       : the two bytes that stand there, written again
@@ -70,7 +72,7 @@ module _ (rs : List Record) (k : ℕ) (h : k < length rs) (q : Record) where
       go (yes x) (no y) = other (λ e. y (omega arith))
       go (no x) y = other (λ e. x (omega arith))
 
-over-behind : (b t w : List ℕ) (n at : ℕ) → length b ≡ at → over (b ++ t) (at + n) w ≡ b ++ over t n w
+pub over-behind : (b t w : List ℕ) (n at : ℕ) → length b ≡ at → over (b ++ t) (at + n) w ≡ b ++ over t n w
 over-behind b t w n at e =
     ap (λ (m : ℕ). over (b ++ t) (m + n) w) (sym e)
     ∙ ap₂ (λ (x y : List ℕ). x ++ (w ++ y)) (take-append-add b t n)
@@ -79,18 +81,24 @@ over-behind b t w n at e =
     ∙ append-assoc b (take n t) (w ++ drop (n + length w) t)
 
 module _ (v : ℕ) (rs : List Record) (k : ℕ) (f : Formed v rs) (h : k < length rs) where
-  pub replaced-bytes : (q : Record) (n : ℕ) (w : List ℕ)
-      → ((t : List ℕ) → over (recordBytes (record-of rs k) ++ t) n w ≡ recordBytes q ++ t)
-      → over (blockBytes v rs) (place k + n) w ≡ blockBytes v (set rs k q)
-  replaced-bytes q n w e =
+  pub replaced-by : (q : Record) (F : List ℕ → List ℕ)
+      → ((b t : List ℕ) → length b ≡ place k → F (b ++ (recordBytes (record-of rs k) ++ t)) ≡ b ++ (recordBytes q ++ t))
+      → F (blockBytes v rs) ≡ blockBytes v (set rs k q)
+  replaced-by q F e =
       let tail = recordsBytes (drop (suc k) rs) in
-      ap (λ (l : List ℕ). over l (place k + n) w) (parted v rs k h)
-      ∙ over-behind (before v rs k) (recordBytes (record-of rs k) ++ tail) w n (place k) (before-length v rs k f h)
-      ∙ ap (λ (s : List ℕ). before v rs k ++ s) (e tail)
+      ap F (parted v rs k h)
+      ∙ e (before v rs k) tail (before-length v rs k f h)
       ∙ append-assoc (header v (length rs)) (recordsBytes (take k rs)) (recordBytes q ++ tail)
       ∙ ap (λ (l : List ℕ). header v (length rs) ++ l)
       (sym (records-more (take k rs) (q ∷ drop (suc k) rs)) ∙ ap recordsBytes (sym (set-split rs k q h)))
       ∙ ap (λ (n : ℕ). header v n ++ recordsBytes (set rs k q)) (sym (length-set rs k q))
+
+  pub replaced-bytes : (q : Record) (n : ℕ) (w : List ℕ)
+      → ((t : List ℕ) → over (recordBytes (record-of rs k) ++ t) n w ≡ recordBytes q ++ t)
+      → over (blockBytes v rs) (place k + n) w ≡ blockBytes v (set rs k q)
+  replaced-bytes q n w e =
+      replaced-by q (λ l. over l (place k + n) w)
+      (λ b t i. over-behind b (recordBytes (record-of rs k) ++ t) w n (place k) i ∙ ap (λ (s : List ℕ). b ++ s) (e t))
 
   pub sign-bytes : (s d : ℕ) → withSign (blockBytes v rs) k s d ≡ blockBytes v (set rs k (signedAs (record-of rs k) s d))
   sign-bytes s d = replaced-bytes (signedAs (record-of rs k) s d) 6 (s ∷ d ∷ []) (λ t. refl)

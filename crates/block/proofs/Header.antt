@@ -14,8 +14,8 @@ use native.Mathlib.Decide.{decLe}
 use lib.Dec.{lit<}
 use lib.ListN.{length, getD, take}
 use lib.Seq.{getD-take}
+use Rattle.algebra.proofs.Truth.{not-not}
 use Rattle.element.specs.Refusals.{Accepted}
-use Rattle.record.proofs.Known.{not-not}
 use Rattle.block.specs.Block.{Version, versionOf, countOf}
 use Rattle.block.specs.Faults.{NotBlock, OtherVersion, headerCodes}
 

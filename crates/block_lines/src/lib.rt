@@ -3,6 +3,7 @@ use append::start_block;
 use block::Fetched;
 use block::check_block;
 use block::fetch_record;
+use pieces::block_and_record;
 use pieces::buffer;
 use pieces::coordinates;
 use pieces::last_word;
@@ -11,12 +12,9 @@ use pieces::unknown;
 use reader::begin_at;
 use reader::step_at;
 use record::Record;
-use text::read::hex;
 use text::read::is_word;
 use text::read::next;
 use text::read::number;
-use text::read::up_to;
-use text::read::word_end;
 use text::write;
 
 // Calls `check_block`, and writes `code record count`.
@@ -56,20 +54,12 @@ fn fetch_answer(bytes: &[u8], k: u32, out: &mut [u8]) -> usize {
 // `fetch HEX k`: `code record id kind limit signed level` and 18 numbers.
 pub fn fetch_line(line: &[u8], at: usize, out: &mut [u8]) -> usize {
     let mut bytes = [0u8; 65536];
-    let end = word_end(line, at);
-    let n = hex(line, at, end, &mut bytes);
-    let k = number(line, next(line, end));
-    let which = up_to(k, 4294967295);
-    if k.next < line.len() {
+    let asked = block_and_record(line, at, &mut bytes);
+    if !asked.ok {
         return unknown(out);
     }
-    if 4294967295 < which {
-        return unknown(out);
-    }
-    if 65536 < n {
-        return unknown(out);
-    }
-    fetch_answer(&bytes[..n], which as u32, out)
+    let n = asked.size;
+    fetch_answer(&bytes[..n], asked.k, out)
 }
 
 // Calls `start_block`, and writes `code used HEX` of the buffer afterwards.

@@ -3,6 +3,7 @@
 --   nodeCount k       == how many nodes the kind has
 --   kindOf n          == the kind of n nodes
 --   NotStored n, NotKind n == n is none of the kinds that a block holds; n is none of the kinds
+--   OtherKind n       == n is not the kind of the six-node triangle
 --   coordinateLimit k == no coordinate is larger in size
 --   greatestLevel k   == no level limit is above it
 --   valueCount k      == how many control values an element has
@@ -30,6 +31,10 @@ NotStored n = ¬ (n ≡ 6) × ¬ (n ≡ 8) × ¬ (n ≡ 9)
 -- "Verdict, bounds and control values take it, no other call" (02, Ask 11): kind 10 is one more
 abbrev pub NotKind : ℕ → Type 0
 NotKind n = NotStored n × ¬ (n ≡ 10)
+
+-- "Kind 6 only (else code 1)" (02, Ask 3); "1 for other kinds" (02, Ask 12)
+abbrev pub OtherKind : ℕ → Type 0
+OtherKind n = ¬ (n ≡ 6)
 
 -- where there is no kind of n nodes it is of no account
 abbrev pub kindOf : ℕ → Kind

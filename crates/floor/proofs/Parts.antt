@@ -2,7 +2,6 @@
 --   not-above      : what is at most n is not above it
 --   percent        : a percentage
 --   small          : the coordinates of a triangle without a fault of its list are within their limit, as they stand or from the first node
---   six-of         : the kind that is not another
 --   Parts, accepted-parts : what an accepted call tells
 --   accepted-lower, accepted-plain : it is accepted with a lower floor, and by `verdict`
 --   straight-positive : and S is positive
@@ -18,7 +17,7 @@ use native.Mathlib.Omega.{arith}
 use lib.Dec.{T}
 use lib.IntN.{ℤ, pos}
 use lib.Signed.{_≤ℤ_, _<ℤ_, leZ, leZ-yes}
-use Rattle.algebra.proofs.Truth.{true-T, T-false}
+use Rattle.algebra.proofs.Truth.{true-T, T-false, not-not}
 use Rattle.algebra.proofs.Order.{<-cases}
 use Rattle.element.specs.Kinds.{six, kindOf}
 use Rattle.element.specs.Origin.{Inside}
@@ -43,18 +42,14 @@ pub record Parts (n l : ℕ) (xs : List ℤ) (p : ℕ) : Type 0 where
   pub share : p ≤ 99
   pub small : Inside six xs
 
-pub six-of : (n : ℕ) → ¬ ¬ (n ≡ 6) → n ≡ 6
-six-of n f =
-    N.le-antisymm (N.le-of-suc-le-suc (N.lt-of-not-le (λ h. f (λ e. omega arith)))) (N.le-of-suc-le-suc (N.lt-of-not-le (λ h. f (λ e. omega arith))))
-
 module _ (n l : ℕ) (xs : List ℤ) (p : ℕ) where
   pub accepted-parts : Accepted (floorCodes n l xs p) → Parts n l xs p
   accepted-parts (k, (h, (f, (g, (d, (q, u)))))) =
       record {
-        kind = six-of n k;
+        kind = not-not n 6 k;
         limit = N.le-of-suc-le-suc (N.lt-of-not-le h);
         share = N.le-of-suc-le-suc (N.lt-of-not-le (λ b. q (inr b)));
-        small = small n xs (six-of n k) f g;
+        small = small n xs (not-not n 6 k) f g;
       }
 
   pub straight-positive : Accepted (floorCodes n l xs p) → pos 0 <ℤ straight xs
@@ -73,7 +68,7 @@ module _ (n l : ℕ) (xs : List ℤ) (p : ℕ) where
   pub accepted-plain : (m : ℕ) → m ≤ 10 → Accepted (floorCodes n l xs p) → Accepted (verdictCodes n m xs)
   accepted-plain m c a =
       let (k, (b, (f, (g, (d, u))))) = a in
-      ((λ x. k (x .0 .0)), (below (six-of n k), (f, (g, (d, tt)))))
+      ((λ x. k (x .0 .0)), (below (not-not n 6 k), (f, (g, (d, tt)))))
     where
       below : n ≡ 6 → ¬ AboveLevel (kindOf n) m
       below e = rw e (not-above c)

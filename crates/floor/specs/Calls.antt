@@ -5,12 +5,12 @@
 --   ToldBy q n l xs r   == what is answered by the profile q: what `verdict` answers, or what `floor_verdict` does
 -- n is the number given as the kind, l the level limit, xs the coordinate list, p the percentage.
 -- Definitions only.
-use mathlib.Core.Path.{_≡_}
 use mathlib.Core.List.{List}
 use mathlib.Core.Logic.{_⊎_}
 use Prim.Native.Nat.{ℕ, _<_}
 use lib.IntN.{ℤ, pos}
 use lib.Signed.{_≤ℤ_}
+use Rattle.element.specs.Kinds.{OtherKind}
 use Rattle.element.specs.Refusals.{Codes, no-more, code, elementCodes}
 use Rattle.verdict.specs.Calls.{Told, VerdictOf}
 use Rattle.verdict.specs.declared.Judged.{Judged}
@@ -19,9 +19,6 @@ use Rattle.floor.specs.declared.Profile.the-variants.{Plain, Floor}
 use Rattle.floor.specs.Floor.{straight, floored}
 
 -- "Kind 6 only (else code 1), greatest level 7"
-abbrev pub OtherKind : ℕ → Type 0
-OtherKind n = ¬ (n ≡ 6)
-
 abbrev pub AboveSeven : ℕ → Type 0
 AboveSeven l = 7 < l
 

@@ -1,5 +1,7 @@
 -- One answer only: two answers that fit the same subject and limit are equal in every field.
 --   judges-unique    : that
+--   not-valid-invalid, not-valid-undecided, not-invalid-undecided : no two of the cases hold together
+--   valid-word       : where the first case holds, the verdict's word is valid
 --   cells-unique     : one least number of cells
 -- For every faithful subject. Assumes nothing.
 use mathlib.Core.Path.{_≡_, refl, sym, _∙_, ap, subst}
@@ -8,7 +10,7 @@ use native.Mathlib.Omega.{arith}
 use native.Mathlib.Nat as N
 use lib.IntN.{ℤ, pos}
 use Rattle.forms.specs.Cuttings.{leaves}
-use Rattle.judge.specs.Verdict.{Word, valid, invalid, undecided, Answer, Subject, LeastCells, FirstBad, Valid, Invalid, Undecided, Case, Judges}
+use Rattle.judge.specs.Verdict.{Word, valid, invalid, undecided, Answer, Subject, LeastCells, FirstBad, Valid, Invalid, Undecided, Case, Judges, ValidUnder}
 use Rattle.judge.specs.Faithful.{valueAt, Faithful}
 use Rattle.judge.proofs.Levels.{passes-no-bad}
 
@@ -93,3 +95,11 @@ module _ (s : Subject) (f : Faithful s) (L : ℕ) where
       go undecided e valid h p q = absurd (not-valid-undecided b a q p)
       go undecided e invalid h p q = absurd (not-invalid-undecided b a q p)
       go undecided e undecided h p q = both-undecided a b (e ∙ sym h) p q
+
+  pub valid-word : (a : Answer) → ValidUnder s L → Judges s L a → a .word ≡ valid
+  valid-word a (b, p) j = go (a .word) refl j
+    where
+      go : (w : Word) → a .word ≡ w → Case s w L a → a .word ≡ valid
+      go valid e q = e
+      go invalid e q = absurd (not-valid-invalid b a p q)
+      go undecided e q = absurd (not-valid-undecided b a p q)

@@ -13,6 +13,7 @@
 --   FirstBad s d i j == d is the least level with a bad point, and (i, j) its bad point with smallest j, then smallest i
 --   Valid, Invalid, Undecided s L a == the three cases, each with all fields of the answer
 --   Judges s L a    == a is the verdict under the limit L
+--   ValidUnder s L  == the first case holds under the limit L
 --   Stays s L       == at level L no grid point is bad and some cell fails
 -- Definitions only.
 use mathlib.Core.Path.{_≡_}
@@ -124,6 +125,9 @@ module _ (s : Subject) where
 
   abbrev pub Judges : ℕ → Answer → Type 0
   Judges L a = Case (a .word) L a
+
+  abbrev pub ValidUnder : ℕ → Type 0
+  ValidUnder L = (a : Answer) × Valid L a
 
   -- ---- undecided "exactly when, at the limit, no grid point is bad and some cell still fails its sign test"
   pub record Stays (L : ℕ) : Type 0 where

@@ -53,14 +53,14 @@ module _ (k : Kind) (us vs : List ℤ) (e : controlValues k us ≡ controlValues
   own ws = code 20 (NotValid k l ws) (code 5 (Short k l ws room) no-more)
 
   pub own-refused : (c : ℕ) → Refused (own us) c → Refused (own vs) c
-  own-refused c (inl (f, q)) = inl ((λ x v. f x (valid-as k vs us (sym e) l x v)), q)
+  own-refused c (inl (f, q)) = inl ((λ (x, v). f (x, valid-as k vs us (sym e) l x v)), q)
   own-refused c (inr (f, inl ((t, p, h), q))) =
-      inr ((λ g. f (λ x v. g x (valid-as k us vs e l x v))), inl ((t, least-as k us vs e l t p, h), q))
+      inr ((λ g. f (λ (x, v). g (x, valid-as k us vs e l x v))), inl ((t, least-as k us vs e l t p, h), q))
   own-refused c (inr (f, inr (g, r))) = absurd r
 
   pub own-accepted : Accepted (own us) → Accepted (own vs)
   own-accepted (f, (g, u)) =
-      ((λ h. f (λ x v. h x (valid-as k us vs e l x v))), ((λ (t, p, h). g (t, least-as k vs us (sym e) l t p, h)), u))
+      ((λ h. f (λ (x, v). h (x, valid-as k us vs e l x v))), ((λ (t, p, h). g (t, least-as k vs us (sym e) l t p, h)), u))
 
 -- ---- the calls
 module _ (n l : ℕ) (xs : List ℤ) (a b : ℤ) (s : Sound n xs) (t : Sound n (movedBy a b xs)) where

@@ -10,6 +10,7 @@ use Prim.Native.Nat.{ℕ}
 use lib.IntN.{ℤ, pos, _-ℤ_, _*ℤ_}
 use lib.ListN.{length}
 use lib.Signed.{_≤ℤ_}
+use Rattle.algebra.proofs.Truth.{not-not}
 use Rattle.element.specs.Kinds.{six, kindOf}
 use Rattle.element.specs.Places.{Place, weightOf}
 use Rattle.element.specs.Jacobian.{jacobian}
@@ -23,7 +24,7 @@ use Rattle.verdict.proofs.Outcomes.{verdict-unique}
 use Rattle.floor.specs.Floor.{straight, margin, shifted}
 use Rattle.floor.specs.Calls.{NoPercent, NotPositive, floorCodes, FloorOf}
 use Rattle.floor.proofs.Still.{straight-moved, shifted-moved}
-use Rattle.floor.proofs.Parts.{six-of, small}
+use Rattle.floor.proofs.Parts.{small}
 use Rattle.floor.proofs.Outcomes.{floor-unique}
 use Rattle.faults.proofs.Limits.{kind-long}
 use Rattle.origin.specs.Lists.{Sound}
@@ -74,17 +75,17 @@ module _ (n l : ℕ) (xs : List ℤ) (p : ℕ) (a b : ℤ) (s : Sound n xs) (t :
   floor-refused c (inl r) = inl r
   floor-refused c (inr (f, inl r)) = inr (f, inl r)
   floor-refused c (inr (f, inr (g, r))) =
-      let e = six-of n f in
+      let e = not-not n 6 f in
       inr (f, inr (g, list-refused n xs a b s t (λ k. k .0 .0 e) (own xs) (own zs) c (own-refused e c) r))
 
   floor-accepted : Accepted (floorCodes n l xs p) → Accepted (floorCodes n l zs p)
   floor-accepted (f, (g, u)) =
-      let e = six-of n f in (f, (g, list-accepted n xs a b s t (λ k. k .0 .0 e) (own xs) (own zs) (own-accepted e) u))
+      let e = not-not n 6 f in (f, (g, list-accepted n xs a b s t (λ k. k .0 .0 e) (own xs) (own zs) (own-accepted e) u))
 
   floor-as : (r : Judged) → FloorOf n l xs p r → FloorOf n l zs p r
   floor-as r (inl q) = inl (record { refused = floor-refused (r .code) (q .refused); zeros = q .zeros })
   floor-as r (inr q) =
-      let long = long-six (six-of n (q .accepted .0)) in
+      let long = long-six (not-not n 6 (q .accepted .0)) in
       inr (told-same six (margin p xs) (margin p zs) (shifted p xs) (shifted p zs) (floorCodes n l xs p) (floorCodes n l zs p) l r
       (λ x. sym (margin-moved xs a b long p x)) (sym (shifted-moved a b xs long p)) (floor-accepted (q .accepted)) q)
 

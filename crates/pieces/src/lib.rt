@@ -67,6 +67,43 @@ pub fn buffer_and_text(line: &[u8], from: usize, buffer: &mut [u8], text: &mut [
     }
 }
 
+// What a call on a record of a block is asked: how many bytes the block has, and the number of the record. Not ok where the block is not
+// all hex or too long, the number is none of 32 bits, or more follows.
+pub struct Named {
+    pub ok: bool,
+    pub size: usize,
+    pub k: u32,
+}
+
+// Reads `HEX k`, the last words of a line.
+pub fn block_and_record(line: &[u8], at: usize, bytes: &mut [u8]) -> Named
+    ensures { λ r. ⌜ r .size ≤ length (now (bytes .entry)) ⌝ }
+{
+    let end = word_end(line, at);
+    let n = hex(line, at, end, bytes);
+    let k = number(line, next(line, end));
+    let which = up_to(k, 4294967295);
+    let bad = Named {
+        ok: false,
+        size: 0,
+        k: 0,
+    };
+    if k.next < line.len() {
+        return bad;
+    }
+    if 4294967295 < which {
+        return bad;
+    }
+    if bytes.len() < n {
+        return bad;
+    }
+    Named {
+        ok: true,
+        size: n,
+        k: which as u32,
+    }
+}
+
 // What a call on an element is asked: the kind, the level limit, and how many coordinates there are. Not ok where the kind or the limit
 // is no number up to 255, or the coordinates are not all numbers of 32 bits or more than there is room for.
 pub struct Drawn {

@@ -2,29 +2,18 @@
 --   known-small : a kind is at most 9
 --   known-level : and its level limit at most 10
 --   each-zero   : numbers within 0 are 0
---   not-not     : two numbers that are not different are the same
 -- Assumes nothing.
-use mathlib.Core.Path.{_≡_, refl, ap}
-use mathlib.Core.Bool.{Bool, true, false}
+use mathlib.Core.Path.{_≡_, ap}
 use mathlib.Core.List.{List}
 use Prim.Native.Nat.{ℕ, _≤_}
 use native.Mathlib.Nat as N
 use native.Mathlib.Omega.{arith}
 use native.Mathlib.Decide.{decLe}
-use borrow.Author.Tests.{eqb-true, eqb-false}
-use lib.Dec.{eqb}
 use lib.IntN.{ℤ, pos, negsuc, natAbs}
 use lib.ListN.{getD}
 use Rattle.algebra.specs.Within.{Each}
 use Rattle.element.specs.Kinds.{Kind, six, eight, nine, ten, NotStored, greatestLevel}
 use Rattle.element.specs.Refusals.{AboveLevel}
-
-pub not-not : (m n : ℕ) → ¬ (¬ (m ≡ n)) → m ≡ n
-not-not m n f = go (eqb m n) (eqb-true m n) (eqb-false m n)
-  where
-    go : (b : Bool) → (b ≡ true → m ≡ n) → (b ≡ false → ¬ (m ≡ n)) → m ≡ n
-    go true p q = p refl
-    go false p q = absurd (f (q refl))
 
 pub known-small : (n : ℕ) → ¬ NotStored n → n ≤ 9
 known-small n f = go (decLe n 9)

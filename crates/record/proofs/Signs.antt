@@ -10,11 +10,11 @@ use mathlib.Core.Logic.{_⊎_, inl, inr, ⊎-elim}
 use Prim.Native.Nat.{ℕ, _≤_, _<_}
 use native.Mathlib.Nat as N
 use native.Mathlib.Omega.{arith}
+use Rattle.algebra.proofs.Truth.{not-not}
 use Rattle.element.specs.Kinds.{Kind}
 use Rattle.element.specs.Refusals.{Codes, no-more, code, AboveLevel, Refused, Coded, refused}
 use Rattle.record.specs.declared.Record.{Record}
 use Rattle.record.specs.Record.{mostSign, HighSign, WrongSign, WellFormed}
-use Rattle.record.proofs.Known.{not-not}
 
 pub known-sign : (v s d : ℕ) → ¬ WrongSign v s d → s ≤ mostSign v
 known-sign v s d f = N.le-of-suc-le-suc (N.lt-of-not-le (λ h. f (inl h)))

@@ -7,13 +7,12 @@
 --   valid-accepted, valid-ready, not-valid : from the verdict
 --   passing-valid  : an element with a cutting no deeper than the limit whose cells all pass is valid
 -- Assumes nothing.
-use mathlib.Core.Path.{_≡_, refl, sym, _∙_, ap, subst}
+use mathlib.Core.Path.{_≡_, refl, sym, ap, subst}
 use mathlib.Core.Bool.{true, false}
 use mathlib.Core.List.{List}
 use mathlib.Core.Option.{some}
 use Prim.Native.Nat.{ℕ, _≤_}
 use native.Mathlib.Nat as N
-use native.Mathlib.Omega.{arith}
 use lib.IntN.{ℤ}
 use Rattle.forms.specs.Cuttings.{Cutting, leaves, depth, greedy}
 use Rattle.forms.specs.Shapes.{pass, cutTo}
@@ -29,16 +28,15 @@ use Rattle.judge.specs.Elements.{subject}
 use Rattle.judge.specs.Faithful.{Faithful}
 use Rattle.judge.proofs.Faithful.{element-faithful}
 use Rattle.judge.proofs.Levels.{level-passes, passes-no-bad}
-use Rattle.judge.proofs.Unique.{cells-unique, not-valid-invalid, not-valid-undecided}
+use Rattle.judge.proofs.Unique.{cells-unique}
 use Rattle.judge.proofs.Computed.{cells-least}
-use Rattle.verdict.specs.Calls.{VerdictOf, HasVerdict, tell}
-use Rattle.verdict.specs.declared.Word.{Word}
+use Rattle.verdict.specs.Calls.{isValid, VerdictOf}
 use Rattle.verdict.specs.declared.Word.the-variants as words
 use Rattle.verdict.specs.declared.Judged.{Judged}
 use Rattle.verdict.proofs.Judging as told
 use Rattle.cuttings.specs.Bytes.{sheetBytes}
 use Rattle.cuttings.proofs.Trimmed.{trimmed-greedy, least-only}
-use Rattle.sheet.specs.Steps.{isValid, trimmedBytes}
+use Rattle.sheet.specs.Steps.{trimmedBytes}
 use Rattle.sheet.specs.Calls.{LeastCutting, NotValid}
 
 -- ---- for every subject
@@ -107,27 +105,15 @@ module _ (n l : ℕ) (xs : List ℤ) (j : Judged) (v : VerdictOf n l xs j) where
   pub valid-accepted : ¬ NotStored n → j .code ≡ 0 → Accepted (storedCodes n l xs)
   valid-accepted s e = (s, told.answered (verdictCodes n l xs) (subject (kindOf n) xs) l j tt v e .accepted .1)
 
-  word-valid : (w : Word) → isValid w ≡ true → w ≡ words.Valid
-  word-valid words.Nothing e = absurd (let z : _≡_ {A = ℕ} 0 1 = cc in omega arith)
-  word-valid words.Valid e = refl
-  word-valid words.Invalid e = absurd (let z : _≡_ {A = ℕ} 0 1 = cc in omega arith)
-  word-valid words.Undecided e = absurd (let z : _≡_ {A = ℕ} 0 1 = cc in omega arith)
-
   pub ready-by-word : j .word ≡ words.Valid → Ready (kindOf n) l xs (j .cells)
   ready-by-word e =
       told.by-word (verdictCodes n l xs) (subject (kindOf n) xs) l judge.valid (λ r. Ready (kindOf n) l xs (r .cells))
       (λ a w. ready-of (kindOf n) l xs a w) j v e
 
   pub valid-ready : isValid (j .word) ≡ true → Ready (kindOf n) l xs (j .cells)
-  valid-ready e = ready-by-word (word-valid (j .word) e)
+  valid-ready e = ready-by-word (told.word-valid (j .word) e)
 
   pub not-valid : j .code ≡ 0 → isValid (j .word) ≡ false → NotValid (kindOf n) l xs
-  not-valid e h b p = by (q .answer .word) (q .answer) (q .judges) (sym (ap (λ (r : Judged). isValid (r .word)) (q .told)) ∙ h)
-    where
-      q : HasVerdict (verdictCodes n l xs) (subject (kindOf n) xs) l j
-      q = told.answered (verdictCodes n l xs) (subject (kindOf n) xs) l j tt v e
-
-      by : (w : judge.Word) (a : Answer) → Case (subject (kindOf n) xs) w l a → isValid (tell w) ≡ false → ⊥
-      by judge.valid a c h = let z : _≡_ {A = ℕ} 0 1 = cc in omega arith
-      by judge.invalid a c h = not-valid-invalid (subject (kindOf n) xs) (element-faithful (kindOf n) xs) l b a p c
-      by judge.undecided a c h = not-valid-undecided (subject (kindOf n) xs) (element-faithful (kindOf n) xs) l b a p c
+  not-valid e h =
+      told.not-valid-under (verdictCodes n l xs) (subject (kindOf n) xs) (element-faithful (kindOf n) xs) l j v
+      (told.answered (verdictCodes n l xs) (subject (kindOf n) xs) l j tt v e .accepted) h

@@ -119,7 +119,7 @@ least-valid : (k : Kind) (l : ℕ) (xs : List ℤ) (t : Cutting) → LeastCuttin
 least-valid k l xs t p f =
     let s : Subject = subject k xs in let y = element-faithful k xs in
     let (a, j) = judges-some s y l in
-    f a (subst (λ (v : judge.Word). judge.Case s v l a) (passing-valid s y l t a (p .passing) (p .within) j) j)
+    f (a, subst (λ (v : judge.Word). judge.Case s v l a) (passing-valid s y l t a (p .passing) (p .within) j) j)
 
 pub least-written : (n l : ℕ) (xs : List ℤ) (before : List ℕ) (t : Cutting) → Accepted (storedCodes n l xs)
     → LeastCutting (subject (kindOf n) xs) l t
@@ -163,7 +163,7 @@ module _ (n l : ℕ) (xs : List ℤ) (s : ¬ NotStored n) (j : Judged) (v : Verd
       → r ≡ written 20 0
   not-valid-written e f before r after (inl w) =
       let q = told.answered (verdictCodes n l xs) (subject (kindOf n) xs) l j tt v e in
-      let none : NotValid (kindOf n) l xs = λ a p. f (by-valid a p) in
+      let none : NotValid (kindOf n) l xs = λ (a, p). f (by-valid a p) in
       w .zeros
       ∙ ap (λ (c : ℕ). written c 0)
       (refused-unique (writeCodes n l xs (length before)) (r .code) 20 (w .refused)
@@ -193,7 +193,7 @@ module _ (n l : ℕ) (xs : List ℤ) (s : ¬ NotStored n) (j : Judged) (v : Verd
       where
         go : Refused (storedCodes n l xs) c ⊎ Refused (later n l xs before) c → (c ≡ 5) × Short (kindOf n) l xs (length before)
         go (inl f) = absurd (refused-accepted (storedCodes n l xs) c f is-accepted)
-        go (inr (inl (f, q))) = absurd (f (ready .answer) (ready .valid))
+        go (inr (inl (f, q))) = absurd (f (ready .answer, ready .valid))
         go (inr (inr (f, inl (g, q)))) = (q, g)
         go (inr (inr (f, inr (g, none)))) = absurd none
 

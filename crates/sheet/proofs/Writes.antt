@@ -22,14 +22,14 @@ use Rattle.element.specs.Refusals.{Codes, no-more, code, Refused, storedCodes}
 use Rattle.element.proofs.Refusals.{refused-then, past-then, accepted-then}
 use Rattle.element.proofs.Stored.{stored-not-ten, stored-alike}
 use Rattle.judge.specs.Elements.{subject}
-use Rattle.verdict.specs.Calls.{VerdictOf}
+use Rattle.verdict.specs.Calls.{isValid, VerdictOf}
 use Rattle.verdict.specs.declared.Judged.{Judged}
 use Rattle.text.specs.Writing.{Wrote}
 use Rattle.text.proofs.Wrote.{wrote-more, wrote-as, take-none}
 use Rattle.cuttings.specs.Bytes.{cuttingBytes, header, sheetBytes, sheetSize, trimmed}
 use Rattle.cuttings.proofs.Bytes.{sheet-size}
 use Rattle.sheet_cells.specs.Either.{shapeBy, valuesBy}
-use Rattle.sheet.specs.Steps.{isValid, trimmedBytes}
+use Rattle.sheet.specs.Steps.{trimmedBytes}
 use Rattle.sheet.specs.Calls.{NotValid, Short, writeCodes, written, WritesSheet}
 use Rattle.sheet.specs.declared.WrittenSheet.{WrittenSheet}
 use Rattle.sheet.proofs.Elements.{as-kind}
@@ -77,7 +77,7 @@ module _ (n l : ℕ) (xs : List ℤ) (before : List ℕ) (s : ¬ NotStored n) (j
     size-is = sheet-size (ready .cutting) ∙ ap sheetSize (sym (ready .many))
 
     is-valid : ¬ NotValid (kindOf n) l xs
-    is-valid f = f (ready .answer) (ready .valid)
+    is-valid f = f (ready .answer, ready .valid)
 
     pub write-short : {r : WrittenSheet} → length before < sheetSize (j .cells) → r ≡ written 5 0 → WritesSheet n l xs before r before
     write-short k =

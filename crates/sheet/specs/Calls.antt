@@ -24,7 +24,7 @@ use lib.ListN.{length, drop}
 use Rattle.forms.specs.Cuttings.{Cutting, leaves, depth}
 use Rattle.element.specs.Kinds.{Kind, kindOf}
 use Rattle.element.specs.Refusals.{Codes, no-more, code, _then_, Refused, Accepted, storedCodes}
-use Rattle.judge.specs.Verdict.{Answer, Subject, Passing, Valid}
+use Rattle.judge.specs.Verdict.{Subject, Passing, ValidUnder}
 use Rattle.judge.specs.Elements.{subject}
 use Rattle.cuttings.specs.Bytes.{sheetBytes}
 use Rattle.sheet.specs.declared.CheckedSheet.{CheckedSheet}
@@ -66,7 +66,7 @@ pub record LeastCutting (s : Subject) (L : ℕ) (t : Cutting) : Type 0 where
 
 -- "20 when the element isn't valid, then 5 when room is short"
 abbrev pub NotValid : Kind → ℕ → List ℤ → Type 0
-NotValid k l xs = (a : Answer) → ¬ Valid (subject k xs) l a
+NotValid k l xs = ¬ ValidUnder (subject k xs) l
 
 abbrev pub Short : Kind → ℕ → List ℤ → ℕ → Type 0
 Short k l xs room = (t : Cutting) × LeastCutting (subject k xs) l t × (room < length (sheetBytes t))

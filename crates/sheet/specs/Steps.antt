@@ -1,7 +1,6 @@
 -- What the functions under the sheet's calls compute on the way.
 --   Headed l b     == b says whether the bytes l begin with the header
 --   endCode r n    == 0 if what was read ends at the place n, else 20
---   isValid w      == the word is valid
 --   trimmedBytes k l xs == the sheet that keeps each cell that passes and cuts any other, l levels down
 -- Definitions only.
 use mathlib.Core.Path.{_≡_}
@@ -15,8 +14,6 @@ use Rattle.forms.specs.Shapes.{pass, cutTo}
 use Rattle.element.specs.Kinds.{Kind}
 use Rattle.element.specs.Control.{controlValues}
 use Rattle.element.specs.Cells.{shapeOf}
-use Rattle.verdict.specs.declared.Word.{Word}
-use Rattle.verdict.specs.declared.Word.the-variants.{Nothing, Valid, Invalid, Undecided}
 use Rattle.cuttings.specs.Bytes.{header, sheetBytes, trimmed}
 use Rattle.cuttings.specs.declared.Read.{Read}
 use Rattle.cuttings.specs.declared.Read.the-variants.{Next, Failed}
@@ -28,12 +25,6 @@ Headed l false = (m : List ℕ) → ¬ (l ≡ header ++ m)
 abbrev pub endCode : Read → ℕ → ℕ
 endCode (Next b) n = cond (eqb b n) 0 20
 endCode Failed n = 20
-
-abbrev pub isValid : Word → Bool
-isValid Nothing = false
-isValid Valid = true
-isValid Invalid = false
-isValid Undecided = false
 
 abbrev pub trimmedBytes : Kind → ℕ → List ℤ → List ℕ
 trimmedBytes k l xs = sheetBytes (trimmed (pass (shapeOf k)) (cutTo (shapeOf k)) l (controlValues k xs))

@@ -6,7 +6,7 @@ use sheet_cells::either::sixteen;
 use sheet_cells::read;
 use sheet_cells::write;
 use text::write::word;
-use verdict::Word;
+use verdict::is_valid;
 ghost use mathlib.Core.Path.{_≡_};
 ghost use lib.Dec.{eqb};
 ghost use Rattle.element.specs.Kinds.{NotStored, kindOf};
@@ -15,7 +15,7 @@ ghost use Rattle.element.specs.Origin.{Inside};
 ghost use Rattle.element.specs.Refusals.{Accepted, storedCodes};
 ghost use Rattle.text.specs.Writing.{Wrote};
 ghost use Rattle.sheet_cells.specs.Either.{valuesBy};
-ghost use Rattle.sheet.specs.Steps.{Headed, endCode, isValid, trimmedBytes};
+ghost use Rattle.sheet.specs.Steps.{Headed, endCode, trimmedBytes};
 ghost use Rattle.sheet.specs.Calls.{checked as checkedBy, written as writtenBy, ChecksSheet, WritesSheet};
 
 // The code, and the record number.
@@ -90,18 +90,6 @@ pub fn check_sheet(kind: u8, limit: u8, coords: &[i32], sheet: &[u8]) -> Checked
     checked(end_code(read, sheet.len()))
 }
 
-// Whether a verdict is valid.
-fn valid(word: Word) -> bool
-    ensures { λ r. ⌜ r ≡ isValid word ⌝ }
-{
-    match word {
-        Word::Nothing => false,
-        Word::Valid => true,
-        Word::Invalid => false,
-        Word::Undecided => false,
-    }
-}
-
 // Writes the sheet that keeps what passes and cuts any other, if there is room for it: the place after it.
 fn write_all(kind: u8, limit: u8, coords: &[i32], out: &mut [u8]) -> usize
     requires { ⌜ Accepted (storedCodes kind limit (now coords)) ⌝ }
@@ -136,7 +124,7 @@ pub fn write_sheet(kind: u8, limit: u8, coords: &[i32], out: &mut [u8]) -> Writt
         return written(judged.code, 0);
     }
     let told = judged.word;
-    if !valid(told) {
+    if !is_valid(told) {
         return written(20, 0);
     }
     let cells = judged.cells as usize;

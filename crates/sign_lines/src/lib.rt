@@ -1,4 +1,5 @@
 // The calls `sign` and `convert`. A block stands in the line as hex.
+use pieces::block_and_record;
 use pieces::buffer;
 use pieces::naturals;
 use pieces::unknown;
@@ -29,20 +30,12 @@ fn sign_answer(bytes: &mut [u8], k: u32, out: &mut [u8]) -> usize {
 // `sign HEX k`: `code record HEX` of the block afterwards.
 pub fn sign_line(line: &[u8], at: usize, out: &mut [u8]) -> usize {
     let mut bytes = [0u8; 65536];
-    let end = word_end(line, at);
-    let n = hex(line, at, end, &mut bytes);
-    let k = number(line, next(line, end));
-    let which = up_to(k, 4294967295);
-    if k.next < line.len() {
+    let asked = block_and_record(line, at, &mut bytes);
+    if !asked.ok {
         return unknown(out);
     }
-    if 4294967295 < which {
-        return unknown(out);
-    }
-    if 65536 < n {
-        return unknown(out);
-    }
-    sign_answer(&mut bytes[..n], which as u32, out)
+    let n = asked.size;
+    sign_answer(&mut bytes[..n], asked.k, out)
 }
 
 // Calls `to_version_1` or `to_version_2`, and writes the answer.

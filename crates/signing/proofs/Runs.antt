@@ -16,11 +16,11 @@ use mathlib.Core.Logic.{_⊎_, inl, inr}
 use Prim.Native.Nat.{ℕ, _<_}
 use native.Mathlib.Omega.{arith}
 use lib.ListN.{length, set, length-set}
+use Rattle.algebra.proofs.Truth.{not-not}
 use Rattle.element.specs.Refusals.{Accepted}
 use Rattle.endian.specs.Numbers.{Bytes}
 use Rattle.judge.specs.Verdict.{Answer, Judges}
 use Rattle.record.specs.declared.Record.{Record}
-use Rattle.record.proofs.Known.{not-not}
 use Rattle.record.proofs.Signs.{zero-signs}
 use Rattle.signs.specs.Signs.{element, signOf, limitOf, Open}
 use Rattle.signs.proofs.Kept.{limit-signed, signed-agrees, signed-settled}

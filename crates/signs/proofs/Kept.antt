@@ -7,8 +7,10 @@
 --   signed-verdict  : there is one
 --   signed-settled  : so it is never undecided
 --   signed-stays    : and it is the verdict under every limit of that level or more, in every field
---   signed-valid    : signed valid: J > 0, from the nodes, at every rational point of the closed element
+--   signed-under    : signed valid: it is valid under its signed level
+--   signed-valid    : so J > 0, from the nodes, at every rational point of the closed element
 --   signed-invalid  : signed invalid: some grid point of the signed level is bad, and none of a level below
+--   signed-never    : so it is valid under no limit
 -- Assumes nothing.
 use mathlib.Core.Path.{_≡_, refl, sym, ap, _∙_, subst}
 use mathlib.Core.Bool.{Bool, cond}
@@ -17,17 +19,18 @@ use native.Mathlib.Omega.{arith}
 use borrow.Author.Tests.{ne-eqb}
 use lib.IntN.{pos}
 use lib.Signed.{_<ℤ_}
+use Rattle.algebra.proofs.Truth.{not-not}
 use Rattle.element.specs.Kinds.{kindOf}
 use Rattle.element.specs.Places.{Place}
 use Rattle.element.specs.Jacobian.{jacobian}
-use Rattle.judge.specs.Verdict.{Word, valid, invalid, undecided, Answer, FirstBad, Case, Judges}
+use Rattle.judge.specs.Verdict.{Word, valid, invalid, undecided, Answer, FirstBad, Case, Judges, ValidUnder}
 use Rattle.judge.specs.Faithful.{Faithful}
 use Rattle.judge.proofs.Faithful.{element-faithful}
+use Rattle.judge.proofs.Levels.{passes-no-bad}
 use Rattle.judge.proofs.Unique.{judges-unique}
 use Rattle.judge.proofs.Demands.{valid-positive, judges-some, limit-never-alters}
 use Rattle.record.specs.declared.Record.{Record}
 use Rattle.record.specs.Record.{used}
-use Rattle.record.proofs.Known.{not-not}
 use Rattle.signs.specs.Signs.{element, signOf, limitOf, Agrees, Differs}
 
 pub unsigned-kept : (r : Record) → r .signed ≡ 0 → ¬ Differs r
@@ -81,13 +84,19 @@ module _ (r : Record) (s : ¬ (r .signed ≡ 0)) (k : ¬ Differs r) where
       let v = signed-verdict in
       (v .0, subst (λ (u : Word). Case (element r) u (r .level) (v .0)) (is (v .0) (v .2 .word ∙ sym e)) (v .1), v .2 .level)
 
+  pub signed-under : r .signed ≡ 1 → ValidUnder (element r) (r .level)
+  signed-under e = let v = case-of valid (sym e) (λ a. is-valid (a .word)) in (v .0, v .1)
+
   pub signed-valid : r .signed ≡ 1 → (x : Place (kindOf (r .kind))) → pos 0 <ℤ jacobian (kindOf (r .kind)) (used r) x
-  signed-valid e =
-      let v = case-of valid (sym e) (λ a. is-valid (a .word)) in
-      valid-positive (kindOf (r .kind)) (used r) (r .level) (v .0) (v .1)
+  signed-valid e = let v = signed-under e in valid-positive (kindOf (r .kind)) (used r) (r .level) (v .0) (v .1)
 
   pub signed-invalid : r .signed ≡ 2 → (i : ℕ) × (j : ℕ) × FirstBad (element r) (r .level) i j
   signed-invalid e =
       let v = case-of invalid (sym e) (λ a. is-invalid (a .word)) in
       let a = v .0 in
       (a .i, a .j, subst (λ (d : ℕ). FirstBad (element r) d (a .i) (a .j)) (v .2) (v .1 .first))
+
+  pub signed-never : r .signed ≡ 2 → (L : ℕ) → ¬ ValidUnder (element r) L
+  signed-never e L (a, v) =
+      let (i, j, b) = signed-invalid e in
+      passes-no-bad (element r) faithful (a .level) (v .level .passing) (r .level) i j (b .bad)

@@ -5,6 +5,8 @@
 --   told-unique      : the answer is determined by the arguments, in every field
 --   answered, accepted-answered : an answer with the code 0, and one to a call that has no fault, is a verdict
 --   word-answered    : and so is an answer with one of the three words
+--   word-valid       : the test of a word for valid
+--   valid-under, not-valid-under : what that test tells of the subject: the first case holds, or it does not
 --   by-word          : what holds of each answer of 01's case for a word holds of the call's answer with that word
 --   valid-level      : valid: the level is the least at which all cells pass
 --   valid-least      : the number of cells is that of a cutting no deeper than that level whose cells all pass, and no such cutting, of
@@ -18,6 +20,7 @@
 --   milder, sterner  : of two calls whose subjects ease: what is valid, and what is invalid, for the one is so for the other
 -- Assumes nothing.
 use mathlib.Core.Path.{_≡_, refl, sym, _∙_, ap, subst}
+use mathlib.Core.Bool.{true, false, false≢true}
 use mathlib.Core.Logic.{inl, inr}
 use Prim.Native.Nat.{ℕ, _≤_}
 use native.Mathlib.Nat as N
@@ -27,14 +30,14 @@ use Rattle.forms.specs.Cuttings.{opens}
 use Rattle.forms.specs.Shapes.{pass, cutTo}
 use Rattle.element.specs.Refusals.{Codes, Refused, Accepted, Coded}
 use Rattle.element.proofs.Refusals.{refused-unique, refused-accepted, numbered, refused-some, coded-some}
-use Rattle.judge.specs.Verdict.{valid, invalid, undecided, Answer, Subject, LeastLevel, FewestCells, FirstBad, Case, Judges, Stays}
+use Rattle.judge.specs.Verdict.{valid, invalid, undecided, Answer, Subject, LeastLevel, FewestCells, FirstBad, Case, Judges, ValidUnder, Stays}
 use Rattle.judge.specs.Verdict as judge
 use Rattle.judge.specs.Faithful.{Faithful}
 use Rattle.judge.specs.Eases.{Eases}
-use Rattle.judge.proofs.Unique.{judges-unique}
+use Rattle.judge.proofs.Unique.{judges-unique, valid-word}
 use Rattle.judge.proofs.Demands as D
 use Rattle.judge.proofs.Eases as E
-use Rattle.verdict.specs.Calls.{tell, given, refusal, Settled, HasVerdict, Told, MilderCall, SternerCall}
+use Rattle.verdict.specs.Calls.{tell, given, refusal, Settled, isValid, HasVerdict, Told, MilderCall, SternerCall}
 use Rattle.verdict.specs.declared.Word.{Word}
 use Rattle.verdict.specs.declared.Word.the-variants.{Nothing, Valid, Invalid, Undecided}
 use Rattle.verdict.specs.declared.Judged.{Judged}
@@ -63,6 +66,12 @@ tell-some : (w : judge.Word) → ¬ (tell w ≡ Nothing)
 tell-some valid e = let z : _≡_ {A = ℕ} 0 1 = cc in omega arith
 tell-some invalid e = let z : _≡_ {A = ℕ} 0 1 = cc in omega arith
 tell-some undecided e = let z : _≡_ {A = ℕ} 0 1 = cc in omega arith
+
+pub word-valid : (w : Word) → isValid w ≡ true → w ≡ Valid
+word-valid Nothing e = absurd (false≢true e)
+word-valid Valid e = refl
+word-valid Invalid e = absurd (false≢true e)
+word-valid Undecided e = absurd (false≢true e)
 
 module _ (o : Codes ℕ) (s : Subject) (l : ℕ) where
   -- ---- taking an answer apart
@@ -99,6 +108,9 @@ module _ (o : Codes ℕ) (s : Subject) (l : ℕ) where
       let p = word-answered w r v e in
       subst P (sym (p .told)) (g (p .answer) (case-is w r p e))
 
+  pub valid-under : (r : Judged) → Told o s l r → isValid (r .word) ≡ true → ValidUnder s l
+  valid-under r v e = by-word valid (λ r. ValidUnder s l) (λ a p. (a, p)) r v (word-valid (r .word) e)
+
   -- ---- what the definition says
   pub valid-level : (r : Judged) → Told o s l r → r .word ≡ Valid → LeastLevel s (r .level)
   valid-level = by-word valid (λ r. LeastLevel s (r .level)) (λ a v. v .level)
@@ -122,6 +134,11 @@ module _ (o : Codes ℕ) (s : Subject) (f : Faithful s) (l : ℕ) where
   told-unique r t (inl p) v = p .zeros ∙ sym (refused-told o s l (r .code) (p .refused) t v)
   told-unique r t (inr p) (inl q) = refused-told o s l (t .code) (q .refused) r (inr p) ∙ sym (q .zeros)
   told-unique r t (inr p) (inr q) = p .told ∙ ap given (judges-unique s f l (p .answer) (q .answer) (p .judges) (q .judges)) ∙ sym (q .told)
+
+  pub not-valid-under : (r : Judged) → Told o s l r → Accepted o → isValid (r .word) ≡ false → ¬ ValidUnder s l
+  not-valid-under r v a e u =
+      let p = accepted-answered o s l r v a in
+      false≢true (sym e ∙ ap isValid (word-is o s l r p ∙ ap tell (valid-word s f l (p .answer) u (p .judges))))
 
   pub valid-least : (r : Judged) → Told o s l r → r .word ≡ Valid → FewestCells s (r .level) (r .cells)
   valid-least = by-word o s l valid (λ r. FewestCells s (r .level) (r .cells)) (D.valid-least-cells s f l)

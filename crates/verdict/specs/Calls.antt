@@ -3,6 +3,7 @@
 --   given a        == the answer's fields for the verdict a
 --   refusal c      == the answer's fields for the code c
 --   Settled w      == the word is valid or invalid
+--   isValid w      == whether it is valid
 --   NoVerdict o r      == a refusal by the order of codes o
 --   HasVerdict o s l r == a success: the verdict on the subject s under the limit l
 --   Told o s l r       == the one or the other: what any call answers that judges s
@@ -13,6 +14,7 @@
 -- n is the number given as the kind, l the level limit, xs the coordinate list.
 -- Definitions only.
 use mathlib.Core.Path.{_≡_}
+use mathlib.Core.Bool.{Bool, true, false}
 use mathlib.Core.List.{List}
 use mathlib.Core.Logic.{_⊎_}
 use Prim.Native.Nat.{ℕ, _≤_}
@@ -55,6 +57,12 @@ Settled Nothing = ⊥
 Settled Valid = Unit {0}
 Settled Invalid = Unit {0}
 Settled Undecided = ⊥
+
+abbrev pub isValid : Word → Bool
+isValid Nothing = false
+isValid Valid = true
+isValid Invalid = false
+isValid Undecided = false
 
 -- ---- what a call that judges answers; o is the order of its codes, s what it judges
 pub record NoVerdict (o : Codes ℕ) (r : Judged) : Type 0 where

@@ -9,7 +9,7 @@ ghost use Rattle.element.specs.Origin.{Inside};
 ghost use Rattle.quad.specs.Points.{quadKind};
 ghost use Rattle.walks.specs.Walk as walks;
 ghost use Rattle.walks.specs.Elements.{walkOf};
-ghost use Rattle.verdict.specs.Calls.{VerdictOf, given, refusal};
+ghost use Rattle.verdict.specs.Calls.{VerdictOf, given, isValid, refusal};
 
 // The word of a verdict; nothing where the call is refused.
 pub enum Word {
@@ -29,6 +29,18 @@ pub struct Judged {
     pub j: u32,
     pub value: i64,
     pub cells: u32,
+}
+
+// Whether a word is valid.
+pub fn is_valid(word: Word) -> bool
+    ensures { λ r. ⌜ r ≡ isValid word ⌝ }
+{
+    match word {
+        Word::Nothing => false,
+        Word::Valid => true,
+        Word::Invalid => false,
+        Word::Undecided => false,
+    }
 }
 
 // The answer of a refused call.

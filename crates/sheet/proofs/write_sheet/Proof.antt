@@ -37,8 +37,8 @@ returns-2 c =
     write-refused (a .kind) (a .limit) (a .coords .now) (a .out .now) (kind-taken known) (judged .verdict .result) (judged .verdict .ensures) (test .if2 .taken)
     (c .written2 .ensures)
 
-valid-requires : tie.Need-valid-requires
-valid-requires c κs = search needs
+is-valid-requires : tie.Need-is-valid-requires
+is-valid-requires c κs = search needs
 
 written-requires-3 : tie.Need-written-requires-3
 written-requires-3 c κs = search needs
@@ -47,7 +47,7 @@ returns-3 : tie.Need-returns-3
 returns-3 c =
     let test = c .before in let vd = test .before in let e1 = vd .before in let judged = e1 .before .before in let known = judged .before in let a = known .before .before .before .args in
     write-not-valid (a .kind) (a .limit) (a .coords .now) (a .out .now) (kind-taken known) (judged .verdict .result) (judged .verdict .ensures) (e1 .if2 .left)
-    (sym (vd .valid .ensures) ∙ not-true (vd .valid .result) (test .if3 .taken)) (c .written3 .ensures)
+    (sym (vd .is-valid .ensures) ∙ not-true (vd .is-valid .result) (test .if3 .taken)) (c .written3 .ensures)
 
 cast-cells : tie.Need-cast-cells
 cast-cells c = search needs
@@ -61,7 +61,7 @@ sub-if4 c =
     omega (
       arith,
       some-cells (a .kind) (a .limit) (a .coords .now) (a .out .now) (kind-taken known) (judged .verdict .result) (judged .verdict .ensures) (e1 .if2 .left)
-          (sym (vd .valid .ensures) ∙ not-false (vd .valid .result) (e2 .if3 .left)),
+          (sym (vd .is-valid .ensures) ∙ not-false (vd .is-valid .result) (e2 .if3 .left)),
     )
 
 add-if4 : tie.Need-add-if4
@@ -75,7 +75,7 @@ returns-4 c =
     let test = c .before in let e2 = test .before .before in let vd = e2 .before in let e1 = vd .before in
     let judged = e1 .before .before in let known = judged .before in let a = known .before .before .before .args in
     write-short (a .kind) (a .limit) (a .coords .now) (a .out .now) (kind-taken known) (judged .verdict .result) (judged .verdict .ensures) (e1 .if2 .left)
-    (sym (vd .valid .ensures) ∙ not-false (vd .valid .result) (e2 .if3 .left)) (let k = test .if4 .taken in omega arith) (c .written4 .ensures)
+    (sym (vd .is-valid .ensures) ∙ not-false (vd .is-valid .result) (e2 .if3 .left)) (let k = test .if4 .taken in omega arith) (c .written4 .ensures)
 
 write-all-requires : tie.Need-write-all-requires
 write-all-requires c κs =
@@ -94,7 +94,7 @@ returns-5 c =
     let e2 = e3 .before .before in let vd = e2 .before in let e1 = vd .before in
     let judged = e1 .before .before in let known = judged .before in let a = known .before .before .before .args in
     write-done (a .kind) (a .limit) (a .coords .now) (a .out .now) (kind-taken known) (judged .verdict .result) (judged .verdict .ensures) (e1 .if2 .left)
-    (sym (vd .valid .ensures) ∙ not-false (vd .valid .result) (e2 .if3 .left)) (let k = e3 .if4 .left in omega arith) (all .write-all .ensures) (c .written5 .ensures)
+    (sym (vd .is-valid .ensures) ∙ not-false (vd .is-valid .result) (e2 .if3 .left)) (let k = e3 .if4 .left in omega arith) (all .write-all .ensures) (c .written5 .ensures)
 
 pub write-sheet-spec : {M : Type 1} → statement M
 write-sheet-spec =
@@ -106,7 +106,7 @@ write-sheet-spec =
     verdict-requires
     written-requires-2
     returns-2
-    valid-requires
+    is-valid-requires
     written-requires-3
     returns-3
     cast-cells

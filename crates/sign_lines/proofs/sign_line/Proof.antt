@@ -6,23 +6,11 @@ use borrow.Author.Needs.{needs}
 use Rattle.sign_lines.proofs.sign_line.Statement.{statement}
 use Rattle.sign_lines.proofs.sign_line.Tie as tie
 
-word-end-requires : tie.Need-word-end-requires
-word-end-requires c κs = search needs
+slice-aggregate-block-and-record : tie.Need-slice-aggregate-block-and-record
+slice-aggregate-block-and-record c = search needs
 
-slice-aggregate-hex : tie.Need-slice-aggregate-hex
-slice-aggregate-hex c = search needs
-
-hex-requires : tie.Need-hex-requires
-hex-requires c κs = search needs
-
-next-requires : tie.Need-next-requires
-next-requires c κs = search needs
-
-number-requires : tie.Need-number-requires
-number-requires c κs = search needs
-
-up-to-requires : tie.Need-up-to-requires
-up-to-requires c κs = search needs
+block-and-record-requires : tie.Need-block-and-record-requires
+block-and-record-requires c κs = search needs
 
 unknown-requires : tie.Need-unknown-requires
 unknown-requires c κs = search needs
@@ -33,8 +21,16 @@ same-length c = search needs
 returns : tie.Need-returns
 returns c = search needs
 
-unknown-requires-2 : tie.Need-unknown-requires-2
-unknown-requires-2 c κs = search needs
+array-borrow-prefix-bytes : tie.Need-array-borrow-prefix-bytes
+array-borrow-prefix-bytes c = search needs
+
+slice-aggregate-sign-answer : tie.Need-slice-aggregate-sign-answer
+slice-aggregate-sign-answer c =
+    let e = c .before .before .before .before in
+    sym (length-take-le _ _ (omega (arith, e .block-and-record .ensures, e .block-and-record .kept)))
+
+sign-answer-requires : tie.Need-sign-answer-requires
+sign-answer-requires c κs = search needs
 
 same-length-2 : tie.Need-same-length-2
 same-length-2 c = search needs
@@ -42,57 +38,17 @@ same-length-2 c = search needs
 returns-2 : tie.Need-returns-2
 returns-2 c = search needs
 
-unknown-requires-3 : tie.Need-unknown-requires-3
-unknown-requires-3 c κs = search needs
-
-same-length-3 : tie.Need-same-length-3
-same-length-3 c = search needs
-
-returns-3 : tie.Need-returns-3
-returns-3 c = search needs
-
-array-borrow-prefix-bytes : tie.Need-array-borrow-prefix-bytes
-array-borrow-prefix-bytes c = search needs
-
-slice-aggregate-sign-answer : tie.Need-slice-aggregate-sign-answer
-slice-aggregate-sign-answer c =
-    let h = c .before .before .before .before .before .before .before .before .before in
-    sym (length-take-le _ _ (omega (arith, h .hex .kept)))
-
-cast-sign-answer : tie.Need-cast-sign-answer
-cast-sign-answer c = search needs
-
-sign-answer-requires : tie.Need-sign-answer-requires
-sign-answer-requires c κs = search needs
-
-same-length-4 : tie.Need-same-length-4
-same-length-4 c = search needs
-
-returns-4 : tie.Need-returns-4
-returns-4 c = search needs
-
 pub sign-line-spec : {M : Type 1} → statement M
 sign-line-spec =
     tie.close
     (tie.spec
-    word-end-requires
-    slice-aggregate-hex
-    hex-requires
-    next-requires
-    number-requires
-    up-to-requires
+    slice-aggregate-block-and-record
+    block-and-record-requires
     unknown-requires
     same-length
     returns
-    unknown-requires-2
-    same-length-2
-    returns-2
-    unknown-requires-3
-    same-length-3
-    returns-3
     array-borrow-prefix-bytes
     slice-aggregate-sign-answer
-    cast-sign-answer
     sign-answer-requires
-    same-length-4
-    returns-4)
+    same-length-2
+    returns-2)
