@@ -3,6 +3,7 @@
 use crate::block::{append, block_bytes, check, hex, list, stored, Record, Stored};
 use crate::element::{judged_code, Element};
 use crate::floor::floor_verdict;
+use crate::mend::{mend, replaced, straighten, told};
 use crate::mesh::append_mesh;
 use crate::pack::append_text;
 use crate::sheet::{check_sheet, write_sheet};
@@ -68,6 +69,15 @@ fn sheet_answer(room: usize, e: &Element) -> String {
     }
 }
 
+// ---- straightening
+
+fn straighten_answer(e: &Element) -> String {
+    match straighten(e) {
+        Ok(set) => format!("0{}{}", words(&replaced(&e.coords, set)), words(&told(&e.coords, set))),
+        Err(c) => format!("{}{}", c, " 0".repeat(12 + 15)),
+    }
+}
+
 // ---- blocks
 
 fn check_answer(b: &[u8]) -> String {
@@ -124,6 +134,13 @@ fn changed_answer(b: &[u8], told: Result<Vec<u8>, (u8, usize)>) -> String {
     }
 }
 
+fn mend_answer(b: &[u8], k: u32) -> String {
+    match mend(b, k) {
+        Ok((told, after)) => format!("0 0{} {}", words(&told), hex(&after)),
+        Err(fault) => format!("{} {}", refused(fault, 15), hex(b)),
+    }
+}
+
 fn mesh_answer(text: &[u8], limit: u8, buffer: &[u8], used: u64) -> String {
     let (m, after) = append_mesh(text, limit, buffer, used);
     format!("{} {} {} {} {} {}", m.code, m.record, m.used, m.appended, m.passed, hex(&after))
@@ -143,6 +160,9 @@ fn unhex(h: &str) -> Option<Vec<u8>> {
     if h == "-" {
         return Some(Vec::new());
     }
+    if h.len() % 2 == 1 {
+        return None;
+    }
     h.as_bytes().chunks(2).map(|c| u8::from_str_radix(std::str::from_utf8(c).ok()?, 16).ok()).collect()
 }
 
@@ -157,6 +177,10 @@ pub fn answer(line: &str) -> String {
 }
 
 fn call(line: &str) -> Option<String> {
+    // a number has no plus sign, and no block has one
+    if line.contains('+') {
+        return None;
+    }
     let w: Vec<&str> = line.split(' ').collect();
     Some(match w[..] {
         ["control", room, kind, ref coords @ ..] => control_answer(room.parse().ok()?, &element(kind, "0", coords)?),
@@ -172,6 +196,7 @@ fn call(line: &str) -> Option<String> {
         ["checksheet", sheet, kind, limit, ref coords @ ..] => {
             check_sheet(&unhex(sheet)?, &element(kind, limit, coords)?).to_string()
         }
+        ["straighten", kind, limit, ref coords @ ..] => straighten_answer(&element(kind, limit, coords)?),
         ["check", block] => check_answer(&unhex(block)?),
         ["fetch", block, k] => fetch_answer(&unhex(block)?, k.parse().ok()?),
         ["walk", block] => walk_answer(&unhex(block)?),
@@ -189,6 +214,7 @@ fn call(line: &str) -> Option<String> {
             let (b, version) = (unhex(block)?, version.parse().ok().filter(|v| [1, 2].contains(v))?);
             changed_answer(&b, convert(&b, version))
         }
+        ["mend", block, k] => mend_answer(&unhex(block)?, k.parse().ok()?),
         ["mesh", limit, used, buffer, text] => {
             mesh_answer(&unhex(text)?, limit.parse().ok()?, &unhex(buffer)?, used.parse().ok()?)
         }

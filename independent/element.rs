@@ -99,6 +99,11 @@ pub fn code(e: &Element) -> u8 {
     code_among(&RECORD_KINDS, e, true)
 }
 
+// The code of a call that takes six-node triangles alone.
+pub fn triangle_code(e: &Element) -> u8 {
+    code_among(&[6], e, true)
+}
+
 pub fn det(a: [Num; 2], b: [Num; 2]) -> Num {
     a[0] * b[1] - a[1] * b[0]
 }

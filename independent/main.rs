@@ -1,11 +1,11 @@
 // An independent judge: it makes sets of elements, blocks, proof sheets, mesh texts and texts of records from fixed seeds, and writes what
 // the checker must answer to them.
-//   independent DIR    writes calls.txt, floors.txt, signs.txt, sheets.txt, fars.txt, corners.txt, tens.txt, lists.txt, floorlists.txt,
-//                      meshes.txt and packs.txt in DIR
+//   independent DIR    writes calls.txt, floors.txt, signs.txt, sheets.txt, fars.txt, corners.txt, tens.txt, mends.txt, lists.txt,
+//                      floorlists.txt, meshes.txt and packs.txt in DIR
 //   independent -      answers the lines of standard input as the program calls does, a line each
-// A line of calls.txt, floors.txt, signs.txt, sheets.txt, fars.txt, corners.txt, tens.txt, meshes.txt and packs.txt is `a line for the
-// program calls -> its answer`; one of lists.txt is `a block in hex -> what the program verdicts prints, its lines joined by " / "`, and
-// one of floorlists.txt has the floor before the block.
+// A line of calls.txt, floors.txt, signs.txt, sheets.txt, fars.txt, corners.txt, tens.txt, mends.txt, meshes.txt and packs.txt is `a line
+// for the program calls -> its answer`; one of lists.txt is `a block in hex -> what the program verdicts prints, its lines joined by
+// " / "`, and one of floorlists.txt has the floor before the block.
 
 mod answers;
 mod block;
@@ -15,6 +15,8 @@ mod element;
 mod fars;
 mod floor;
 mod floors;
+mod mend;
+mod mends;
 mod mesh;
 mod pack;
 mod packs;
@@ -152,6 +154,7 @@ fn write_sets(dir: &str) {
     write("fars.txt", in_parallel(fars::questions(), answered));
     write("corners.txt", in_parallel(corners::questions(), answered));
     write("tens.txt", in_parallel(tens::questions(), answered));
+    write("mends.txt", in_parallel(mends::questions(), answered));
     let meshes = texts::questions().iter().chain(&texts::collapsed_questions()).map(texts::Question::line).collect();
     write("meshes.txt", in_parallel(meshes, answered));
     write("packs.txt", in_parallel(packs::questions().iter().map(packs::Question::line).collect(), answered));

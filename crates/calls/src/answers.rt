@@ -25,6 +25,9 @@ pub fn answer(line: &[u8], out: &mut [u8]) -> usize {
     if is_word(line, 0, end, b"checksheet") {
         return sheet_lines::checksheet_line(line, at, out);
     }
+    if is_word(line, 0, end, b"straighten") {
+        return mend_lines::straighten_line(line, at, out);
+    }
     block_answer(line, end, at, out)
 }
 
@@ -47,6 +50,9 @@ fn block_answer(line: &[u8], end: usize, at: usize, out: &mut [u8]) -> usize {
     }
     if is_word(line, 0, end, b"convert") {
         return sign_lines::convert_line(line, at, out);
+    }
+    if is_word(line, 0, end, b"mend") {
+        return mend_lines::mend_line(line, at, out);
     }
     if is_word(line, 0, end, b"list") {
         return list_lines::list_line(line, at, out);

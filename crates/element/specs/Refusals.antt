@@ -5,12 +5,13 @@
 --   Accepted o       == no fault of the order is there
 --   Coded o c        == c is the code of a call with this order: 0 when it is accepted
 --   Beyond n xs, Astray n xs == some number is beyond n; xs is not within n, neither as it stands nor from the first node
---   NotStored n, NotKind n, AboveLevel k l, WrongLength n xs, Outside k xs, Collapsed k xs, ShortRoom k room == the faults of an element
+--   NotStored n, NotKind n, OtherKind n, AboveLevel k l, WrongLength n xs, Outside k xs, Collapsed k xs, ShortRoom k room == the faults of an element
 --   nodeCodes k xs o == what is asked of an element's nodes, wherever they stand: 4, then 21; and then the order o
 --   elementCodes n xs o == what is asked of a coordinate list, and then the order o
 --   levelCodes n l xs == a level limit, and a coordinate list
 --   controlCodes, boundsCodes, verdictCodes == the orders of the calls that take every kind
 --   storedCodes == the order of an element that is to go into a block, and of one with a proof sheet
+--   sixCodes == the order of a six-node triangle that is to be straightened
 -- Definitions only.
 use mathlib.Core.Path.{_≡_}
 use mathlib.Core.List.{List}
@@ -18,7 +19,7 @@ use mathlib.Core.Logic.{_⊎_}
 use Prim.Native.Nat.{ℕ, _*_, _<_}
 use lib.IntN.{ℤ, natAbs}
 use lib.ListN.{length}
-use Rattle.element.specs.Kinds.{Kind, kindOf, NotStored, NotKind, coordinateLimit, greatestLevel, valueCount}
+use Rattle.element.specs.Kinds.{Kind, kindOf, NotStored, NotKind, OtherKind, coordinateLimit, greatestLevel, valueCount}
 use Rattle.element.specs.Control.{at}
 use Rattle.element.specs.Origin.{fromFirst, Unheld}
 use Rattle.element.specs.Corners.{Collapsed}
@@ -94,3 +95,7 @@ verdictCodes n l xs = code 1 (NotKind n) (levelCodes n l xs)
 -- "no other call" takes kind 10: there it is code 1
 abbrev pub storedCodes : ℕ → ℕ → List ℤ → Codes ℕ
 storedCodes n l xs = code 1 (NotStored n) (levelCodes n l xs)
+
+-- "the verdict's own, with 1 for other kinds" (02, Ask 12)
+abbrev pub sixCodes : ℕ → ℕ → List ℤ → Codes ℕ
+sixCodes n l xs = code 1 (OtherKind n) (levelCodes n l xs)

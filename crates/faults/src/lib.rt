@@ -17,6 +17,7 @@ ghost use Rattle.element.specs.Refusals.{
   boundsCodes,
   verdictCodes,
   storedCodes,
+  sixCodes,
 };
 ghost use Rattle.faults.specs.Nodes.{cornerCodes};
 
@@ -204,6 +205,16 @@ pub fn stored_code(kind: u8, limit: u8, coords: &[i32]) -> u8
     ensures { λ r. ⌜ Coded (storedCodes kind limit (now (coords .entry))) r ⌝ }
 {
     if !stored(kind) {
+        return 1;
+    }
+    level_code(kind, limit, coords)
+}
+
+// The same of a six-node triangle, where no other kind is taken.
+pub fn six_code(kind: u8, limit: u8, coords: &[i32]) -> u8
+    ensures { λ r. ⌜ Coded (sixCodes kind limit (now (coords .entry))) r ⌝ }
+{
+    if kind != 6 {
         return 1;
     }
     level_code(kind, limit, coords)

@@ -4,5 +4,6 @@ pub mod Subjects
 pub mod Values
 pub mod Verdicts
 pub mod Sheets
+pub mod Straight
 pub mod Accepts
 pub mod Examples
