@@ -2,7 +2,7 @@
 --   +ℤ-left-comm, +ℤ-right-comm, +ℤ-four  : sums in another order
 --   *ℤ-distr, *ℤ-distl                    : a product distributes over a sum
 --   neg-unique, neg-*ℤ, *ℤ-neg            : negation and products
---   *ℤ-assoc, *ℤ-four, *ℤ-1, 1-*ℤ         : products in another order, and by 1
+--   *ℤ-assoc, *ℤ-left-comm, *ℤ-right-comm, *ℤ-four, *ℤ-1, 1-*ℤ : products in another order, and by 1
 --   +ℤ-cancel, eq-of-sub                  : a summand cancels; what differs by 0 is equal
 -- Assumes nothing.
 use mathlib.Core.Path.{_≡_, sym, _∙_, ap, ap₂}
@@ -92,6 +92,9 @@ pub *ℤ-assoc : (a b c : ℤ) → (a *ℤ b) *ℤ c ≡ a *ℤ (b *ℤ c)
 
 pub *ℤ-left-comm : (a b c : ℤ) → a *ℤ (b *ℤ c) ≡ b *ℤ (a *ℤ c)
 *ℤ-left-comm a b c = sym (*ℤ-assoc a b c) ∙ ap (λ x. x *ℤ c) (*ℤ-comm a b) ∙ *ℤ-assoc b a c
+
+pub *ℤ-right-comm : (a b c : ℤ) → a *ℤ b *ℤ c ≡ a *ℤ c *ℤ b
+*ℤ-right-comm a b c = *ℤ-assoc a b c ∙ ap (λ x. a *ℤ x) (*ℤ-comm b c) ∙ sym (*ℤ-assoc a c b)
 
 pub *ℤ-four : (a b c d : ℤ) → (a *ℤ b) *ℤ (c *ℤ d) ≡ (a *ℤ c) *ℤ (b *ℤ d)
 *ℤ-four a b c d =

@@ -9,14 +9,15 @@ use mathlib.Core.List.{List, [], _∷_, map}
 use Prim.Native.Nat.{ℕ, _*_, _≤_, _<_, min}
 use native.Mathlib.Nat as N
 use native.Mathlib.Omega.{arith}
-use borrow.Author.Tests.{eqb-true, eqb-false, leb-true, leb-false}
-use lib.Dec.{eqb, leb, lit<}
+use borrow.Author.Tests.{leb-true, leb-false}
+use lib.Dec.{leb, lit<}
 use lib.IntN.{ℤ}
 use lib.ListN.{length, take, drop, length-map, length-take}
 use lib.Seq.{take-all}
 use Rattle.element.specs.Kinds.{Kind, six, eight, nine, ten, NotStored, kindOf, greatestLevel}
 use Rattle.element.specs.Corners.{Collapsed}
 use Rattle.element.specs.Refusals.{Accepted, AboveLevel, WrongLength, Outside}
+use Rattle.faults.proofs.Limits.{long-of}
 use Rattle.append.specs.Append.{padded, followCodes}
 use Rattle.append.specs.Series.{Given, given, nextCodes}
 use Rattle.batch.proofs.Same.{SameCodes, same-code, codes-refl}
@@ -58,9 +59,6 @@ level-small ten = omega arith
 pub clips-words : (us : List (List ℕ)) → Clips 4294967295 (map (clipped 4294967295) us) (map valueOf us)
 clips-words [] = no-clips
 clips-words (u ∷ us) = clip (clip-size 4294967295 u) (clip-same 4294967295 u) (clips-words us)
-
-length-is : (n : ℕ) (xs : List ℤ) → ¬ WrongLength n xs → length xs ≡ 2 * n
-length-is n xs h = by-test (eqb (length xs) (2 * n)) (length xs ≡ 2 * n) (eqb-true (length xs) (2 * n)) (λ e. absurd (h (eqb-false (length xs) (2 * n) e)))
 
 module _ (us : List (List ℕ)) where
   abbrev few : List ℤ
@@ -113,7 +111,7 @@ module _ (low count room : ℕ) (ws : List (List ℕ)) where
 
     module _ (r : ¬ WrongLength (min 255 n) (few us)) where
       clips : Clips 4294967295 (few us) (all us)
-      clips = few-clips us (omega (arith, few-length us, length-is (min 255 n) (few us) r, e, small))
+      clips = few-clips us (omega (arith, few-length us, long-of (min 255 n) (few us) r, e, small))
 
       stands : Stands (kindOf n) (few us) (all us)
       stands = clips-stands (lit< tt) (kindOf n) clips
@@ -147,7 +145,7 @@ module _ (low count room : ℕ) (ws : List (List ℕ)) where
       let k : ¬ NotStored (min 255 n) = λ h. a .0 (kind-same n h) in
       let g = level-small (kindOf n) in
       let i : min 255 l ≡ l = omega (arith, g, N.le-of-suc-le-suc (N.lt-of-not-le (a .1 .0))) in
-      let h : length us ≤ 18 = omega (arith, all-length us, length-is n (all us) (a .1 .1 .0), small k) in
+      let h : length us ≤ 18 = omega (arith, all-length us, long-of n (all us) (a .1 .1 .0), small k) in
       let c : few us ≡ all us = stands-same (kindOf n) (few us) (all us) (clips-stands (lit< tt) (kindOf n) (few-clips us h)) (a .1 .1 .1 .0) in
       ap₂ (λ (m o : ℕ). record { id = numberOf (first ws); kind = m; limit = o; signed = 0; level = 0; coords = padded (few us) }) (e k) i
       ∙ ap (λ (xs : List ℤ). record { id = numberOf (first ws); kind = n; limit = l; signed = 0; level = 0; coords = padded xs }) c

@@ -13,7 +13,7 @@ use Rattle.element.specs.Places.{InTriangle, square, whole}
 use Rattle.element.specs.Cubic.{J10, values10}
 use Rattle.element.specs.Control.{controlValues}
 use Rattle.element.specs.Refusals.{Refused, Accepted, controlCodes}
-use Rattle.control.specs.Whole.{IsWhole}
+use Rattle.floats.specs.Values.{IsWhole}
 use Rattle.control.specs.Calls.{controlled, ControlValues, boundsOf, Told, SolverBounds}
 use Rattle.control.specs.declared.Controlled.{Controlled}
 use Rattle.control.specs.declared.Bounded.{Bounded}

@@ -3,4 +3,3 @@ pub mod Outcomes
 pub mod Cubic
 pub mod Running
 pub mod Shut
-pub mod Whole

@@ -18,7 +18,7 @@ use Rattle.element.specs.Control.{controlValues}
 use Rattle.element.specs.Refusals.{controlCodes, boundsCodes}
 use Rattle.element.proofs.Refusals.{refused-unique, refused-accepted, refused-some}
 use Rattle.element.proofs.Bounds.{least-unique, greatest-unique, bounds-between}
-use Rattle.control.specs.Whole.{exact}
+use Rattle.floats.specs.Values.{exact}
 use Rattle.control.specs.Calls.{controlled, ControlValues, codeOf, boundsOf, Told, BoundsOf, NoBounds, HasBounds, SolverBounds, Brackets}
 use Rattle.control.specs.declared.Controlled.{Controlled}
 use Rattle.control.specs.declared.Bounds.{Bounds}
@@ -26,7 +26,7 @@ use Rattle.control.specs.declared.Bounded.{Bounded}
 use Rattle.control.specs.declared.Bounded.the-variants.{Both, Code}
 use Rattle.control.proofs.Answers.{values-small}
 use Rattle.control.proofs.Running.{least-within, greatest-within}
-use Rattle.control.proofs.Whole.{exact-is}
+use Rattle.floats.proofs.Whole.{exact-is}
 
 -- ---- control values
 pub control-values-unique : (n : ℕ) (xs before : List ℤ) (r s : Controlled) (a b : List ℤ)

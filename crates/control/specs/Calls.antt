@@ -23,7 +23,7 @@ use Rattle.element.specs.Places.{Place}
 use Rattle.element.specs.Control.{controlValues}
 use Rattle.element.specs.Bounds.{Least, Greatest, Between}
 use Rattle.element.specs.Refusals.{Refused, Accepted, controlCodes, boundsCodes}
-use Rattle.control.specs.Whole.{IsWhole, exact}
+use Rattle.floats.specs.Values.{IsWhole, exact}
 use Rattle.control.specs.declared.Controlled.{Controlled}
 use Rattle.control.specs.declared.Bounds.{Bounds}
 use Rattle.control.specs.declared.Bounded.{Bounded}

@@ -5,7 +5,7 @@
 --   Accepted o       == no fault of the order is there
 --   Coded o c        == c is the code of a call with this order: 0 when it is accepted
 --   Beyond n xs, Astray n xs == some number is beyond n; xs is not within n, neither as it stands nor from the first node
---   NotStored n, NotKind n, OtherKind n, AboveLevel k l, WrongLength n xs, Outside k xs, Collapsed k xs, ShortRoom k room == the faults of an element
+--   NotStored n, NotKind n, OtherKind n, AboveLevel k l, WrongCount n many, WrongLength n xs, Outside k xs, Collapsed k xs, ShortRoom k room == the faults of an element
 --   nodeCodes k xs o == what is asked of an element's nodes, wherever they stand: 4, then 21; and then the order o
 --   elementCodes n xs o == what is asked of a coordinate list, and then the order o
 --   levelCodes n l xs == a level limit, and a coordinate list
@@ -51,8 +51,11 @@ abbrev pub AboveLevel : Kind → ℕ → Type 0
 AboveLevel k l = greatestLevel k < l
 
 -- 3: "coordinate list not 2 numbers per node"
+abbrev pub WrongCount : ℕ → ℕ → Type 0
+WrongCount n many = ¬ (many ≡ 2 * n)
+
 abbrev pub WrongLength : ℕ → List ℤ → Type 0
-WrongLength n xs = ¬ (length xs ≡ 2 * n)
+WrongLength n xs = WrongCount n (length xs)
 
 -- 4: "a coordinate outside its limit"; "the coordinates are accepted if all lie within the kind's limit, as before, or if every node's
 -- difference from the first node, in x and in y, does", and "Code 4 is given when neither holds" (02, Ask 7). The calls are given i32; a

@@ -5,6 +5,7 @@ use floor::verdict_by;
 use pieces::element;
 use pieces::integers;
 use pieces::naturals;
+use pieces::room_and_kind;
 use pieces::unknown;
 use text::read::number;
 use text::read::numbers;
@@ -17,32 +18,26 @@ use verdict::Word;
 fn control_answer(kind: u8, coords: &[i32], values: &mut [i64], out: &mut [u8]) -> usize {
     let told = control::control_values(kind, coords, values);
     let count = told.count;
-    let mut end = write::natural(out, 0, told.code as u64);
-    end = write::put(out, end, 32);
-    end = write::natural(out, end, count as u64);
-    end = integers(out, end, &values[..count]);
+    let code = write::natural(out, 0, told.code as u64);
+    let head = naturals(out, code, &[count as u64]);
+    let end = integers(out, head, &values[..count]);
     write::put(out, end, 10)
 }
 
 // `control ROOM KIND x y ..`: `code n v1 .. vn`.
 pub fn control_line(line: &[u8], at: usize, out: &mut [u8]) -> usize {
-    let room = number(line, at);
-    let kind = number(line, room.next);
+    let asked = room_and_kind(line, at);
     let mut coords = [0; 64];
-    let n = numbers(line, kind.next, &mut coords);
-    let places = up_to(room, 64) as usize;
-    let k = up_to(kind, 255);
-    if 64 < places {
-        return unknown(out);
-    }
-    if 255 < k {
+    let n = numbers(line, asked.next, &mut coords);
+    if !asked.ok {
         return unknown(out);
     }
     if 64 < n {
         return unknown(out);
     }
+    let room = asked.room;
     let mut values = [0; 64];
-    control_answer(k as u8, &coords[..n], &mut values[..places], out)
+    control_answer(asked.kind, &coords[..n], &mut values[..room], out)
 }
 
 // A float that is a whole number, as a number.

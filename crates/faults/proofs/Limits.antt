@@ -8,11 +8,11 @@ use mathlib.Core.Path.{_≡_, refl, sym, ap, _∙_}
 use mathlib.Core.Bool.{Bool, true, false, cond}
 use mathlib.Core.List.{List}
 use Prim.Native.Nat.{ℕ, _*_}
-use native.Mathlib.Decide.{ℕ-discrete}
 use borrow.Author.Tests.{ne-eqb}
 use lib.Dec.{eqb}
 use lib.IntN.{ℤ}
 use lib.ListN.{length}
+use Rattle.algebra.proofs.Truth.{not-not}
 use Rattle.element.specs.Kinds.{eight, nine, nodeCount, kindOf, NotKind, coordinateLimit, greatestLevel}
 use Rattle.element.specs.Origin.{Inside}
 use Rattle.element.specs.Refusals.{Accepted, WrongLength, Outside, boundsCodes}
@@ -20,11 +20,7 @@ use Rattle.element.proofs.Origin.{node-count}
 use Rattle.element.proofs.Ranges.{inside-ranged}
 
 pub last-kind : (n : ℕ) → ¬ NotKind n → ¬ (n ≡ 6) → ¬ (n ≡ 8) → ¬ (n ≡ 10) → n ≡ 9
-last-kind n f g h t = go (ℕ-discrete n 9)
-  where
-    go : Dec (n ≡ 9) → n ≡ 9
-    go (yes e) = e
-    go (no e) = absurd (f ((g, h, e), t))
+last-kind n f g h t = not-not n 9 (λ e. f ((g, h, e), t))
 
 pub level-quad : (n : ℕ) → ¬ (n ≡ 6) → ¬ (n ≡ 10) → 4 ≡ greatestLevel (kindOf n)
 level-quad n h t = rw (ne-eqb n 6 h, ne-eqb n 10 t) (either (eqb n 8))
@@ -35,11 +31,7 @@ level-quad n h t = rw (ne-eqb n 6 h, ne-eqb n 10 t) (either (eqb n 8))
 
 -- ---- an accepted element
 pub long-of : (n : ℕ) (xs : List ℤ) → ¬ WrongLength n xs → length xs ≡ 2 * n
-long-of n xs f = go (ℕ-discrete (length xs) (2 * n))
-  where
-    go : Dec (length xs ≡ 2 * n) → length xs ≡ 2 * n
-    go (yes e) = e
-    go (no e) = absurd (f e)
+long-of n xs f = not-not (length xs) (2 * n) f
 
 pub kind-long : (n : ℕ) (xs : List ℤ) → ¬ NotKind n → ¬ WrongLength n xs → length xs ≡ 2 * nodeCount (kindOf n)
 kind-long n xs f g = long-of n xs g ∙ ap (λ m. 2 * m) (sym (node-count n f))

@@ -145,6 +145,44 @@ pub fn element(line: &[u8], at: usize, coords: &mut [i32]) -> Drawn
     }
 }
 
+// What a call that fills a buffer is asked first: how many places the buffer has, and the kind. Not ok where the one is no number up to 64
+// or the other none up to 255.
+pub struct Roomed {
+    pub ok: bool,
+    pub room: usize,
+    pub kind: u8,
+    pub next: usize,
+}
+
+// Reads `ROOM KIND` at a place of a line, and tells the place after them.
+pub fn room_and_kind(line: &[u8], at: usize) -> Roomed
+    ensures { λ r. ⌜ r .room ≤ 64 ⌝ }
+{
+    let room = number(line, at);
+    let kind = number(line, room.next);
+    let n = up_to(room, 64);
+    let k = up_to(kind, 255);
+    let next = kind.next;
+    let bad = Roomed {
+        ok: false,
+        room: 0,
+        kind: 0,
+        next,
+    };
+    if 64 < n {
+        return bad;
+    }
+    if 255 < k {
+        return bad;
+    }
+    Roomed {
+        ok: true,
+        room: n as usize,
+        kind: k as u8,
+        next,
+    }
+}
+
 // Numbers, each with a space before it.
 pub fn integers(out: &mut [u8], from: usize, values: &[i64]) -> usize {
     let mut at = from;

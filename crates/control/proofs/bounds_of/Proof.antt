@@ -4,9 +4,9 @@ use Prim.Native.Nat.{_^_}
 use lib.IntN.{pos}
 use lib.ListN.{getD}
 use Rattle.algebra.proofs.Within.{rd}
-use Rattle.control.specs.Whole.{exact}
+use Rattle.floats.specs.Values.{exact}
 use Rattle.control.proofs.Running.{least-within, greatest-within}
-use Rattle.control.proofs.Whole.{in-float}
+use Rattle.floats.proofs.Whole.{in-float}
 use borrow.Author.Needs.{needs}
 use Rattle.control.proofs.bounds_of.Statement.{statement}
 use Rattle.control.proofs.bounds_of.Tie as tie

@@ -7,55 +7,55 @@ use borrow.Author.Needs.{needs}
 use Rattle.element_lines.proofs.control_answer.Statement.{statement}
 use Rattle.element_lines.proofs.control_answer.Tie as tie
 
--- src/lib.rt
+-- src/lib.rt:19:9
 control-values-requires : tie.Need-control-values-requires
 control-values-requires c κs = search needs
 
--- src/lib.rt
+-- src/lib.rt:21:39
 cast-natural : tie.Need-cast-natural
 cast-natural c = search needs
 
--- src/lib.rt
+-- src/lib.rt:21:9
 natural-requires : tie.Need-natural-requires
 natural-requires c κs = search needs
 
--- src/lib.rt
-put-requires : tie.Need-put-requires
-put-requires c κs = search needs
+-- src/lib.rt:22:36
+slice-aggregate-naturals : tie.Need-slice-aggregate-naturals
+slice-aggregate-naturals c = search needs
 
--- src/lib.rt
-natural-requires-2 : tie.Need-natural-requires-2
-natural-requires-2 c κs = search needs
+-- src/lib.rt:22:9
+naturals-requires : tie.Need-naturals-requires
+naturals-requires c κs = search needs
 
--- src/lib.rt
+-- src/lib.rt:23:35
 slice-reshare-prefix-integers : tie.Need-slice-reshare-prefix-integers
 slice-reshare-prefix-integers c =
-    let c15 = c .before .before .before .before .before .before .before .before .before .before .before .before .before .before .before in
-    omega (arith, count-room (c15 .control-values .ensures), c15 .control-values .kept)
+    let d = c .before .before .before .before .before .before .before .before .before .before .before .before in
+    omega (arith, count-room (d .control-values .ensures), d .control-values .kept)
 
--- src/lib.rt
+-- src/lib.rt:23:35
 slice-aggregate-integers : tie.Need-slice-aggregate-integers
 slice-aggregate-integers c =
-    let c16 = c .before .before .before .before .before .before .before .before .before .before .before .before .before .before .before .before in
-    sym (length-take-le _ _ (omega (arith, count-room (c16 .control-values .ensures), c16 .control-values .kept)))
+    let d = c .before .before .before .before .before .before .before .before .before .before .before .before .before in
+    sym (length-take-le _ _ (omega (arith, count-room (d .control-values .ensures), d .control-values .kept)))
 
--- src/lib.rt
+-- src/lib.rt:23:9
 integers-requires : tie.Need-integers-requires
 integers-requires c κs = search needs
 
--- src/lib.rt
-put-requires-2 : tie.Need-put-requires-2
-put-requires-2 c κs = search needs
+-- src/lib.rt:24:5
+put-requires : tie.Need-put-requires
+put-requires c κs = search needs
 
--- src/lib.rt
+-- src/lib.rt:18:1
 same-length : tie.Need-same-length
 same-length c = search needs
 
--- src/lib.rt
+-- src/lib.rt:18:1
 same-length-2 : tie.Need-same-length-2
 same-length-2 c = search needs
 
--- src/lib.rt
+-- src/lib.rt:18:1
 returns : tie.Need-returns
 returns c = search needs
 
@@ -66,12 +66,12 @@ control-answer-spec =
     control-values-requires
     cast-natural
     natural-requires
-    put-requires
-    natural-requires-2
+    slice-aggregate-naturals
+    naturals-requires
     slice-reshare-prefix-integers
     slice-aggregate-integers
     integers-requires
-    put-requires-2
+    put-requires
     same-length
     same-length-2
     returns)

@@ -1,0 +1,4 @@
+pub mod Signs
+pub mod Order
+pub mod Values
+pub mod Whole

@@ -1,0 +1,1 @@
+// Which number a float is. No code.
