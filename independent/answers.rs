@@ -8,6 +8,7 @@ use crate::mesh::append_mesh;
 use crate::pack::append_text;
 use crate::sheet::{check_sheet, write_sheet};
 use crate::sign::{convert, sign};
+use crate::solver::{scale, unscale};
 use crate::verdict::{Judged, Verdict};
 
 // Numbers with a blank before each.
@@ -76,6 +77,40 @@ fn straighten_answer(e: &Element) -> String {
         Ok(set) => format!("0{}{}", words(&replaced(&e.coords, set)), words(&told(&e.coords, set))),
         Err(c) => format!("{}{}", c, " 0".repeat(12 + 15)),
     }
+}
+
+// ---- a solver's coordinates
+
+// The most room that the program `calls` gives numbers, and the most that it reads.
+const MOST_PLACES: usize = 64;
+
+fn handed_answer(told: Result<Vec<String>, u8>) -> String {
+    match told {
+        Ok(l) => format!("0 {}{}", l.len(), words(&l)),
+        Err(c) => format!("{} 0", c),
+    }
+}
+
+fn places(room: &str) -> Option<usize> {
+    room.parse().ok().filter(|&n| n <= MOST_PLACES)
+}
+
+// Numbers that are no more than there is room for.
+fn few<T>(all: Option<Vec<T>>) -> Option<Vec<T>> {
+    all.filter(|l| l.len() <= MOST_PLACES)
+}
+
+fn scale_answer(room: &str, kind: &str, bits: &[&str]) -> Option<String> {
+    let pattern = |b: &&str| if b.len() == 16 { u64::from_str_radix(b, 16).ok() } else { None };
+    let bits = few(bits.iter().map(pattern).collect())?;
+    let told = scale(places(room)?, kind.parse().ok()?, &bits);
+    Some(handed_answer(told.map(|l| l.iter().map(|v| v.to_string()).collect())))
+}
+
+fn unscale_answer(room: &str, kind: &str, numbers: &[&str]) -> Option<String> {
+    let numbers = few(numbers.iter().map(|v| v.parse::<i32>().ok()).collect())?;
+    let told = unscale(places(room)?, kind.parse().ok()?, &numbers);
+    Some(handed_answer(told.map(|l| l.iter().map(|b| format!("{:016x}", b)).collect())))
 }
 
 // ---- blocks
@@ -197,6 +232,8 @@ fn call(line: &str) -> Option<String> {
             check_sheet(&unhex(sheet)?, &element(kind, limit, coords)?).to_string()
         }
         ["straighten", kind, limit, ref coords @ ..] => straighten_answer(&element(kind, limit, coords)?),
+        ["scale", room, kind, ref bits @ ..] => scale_answer(room, kind, bits)?,
+        ["unscale", room, kind, ref numbers @ ..] => unscale_answer(room, kind, numbers)?,
         ["check", block] => check_answer(&unhex(block)?),
         ["fetch", block, k] => fetch_answer(&unhex(block)?, k.parse().ok()?),
         ["walk", block] => walk_answer(&unhex(block)?),

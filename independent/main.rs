@@ -1,11 +1,11 @@
 // An independent judge: it makes sets of elements, blocks, proof sheets, mesh texts and texts of records from fixed seeds, and writes what
 // the checker must answer to them.
-//   independent DIR    writes calls.txt, floors.txt, signs.txt, sheets.txt, fars.txt, corners.txt, tens.txt, mends.txt, lists.txt,
-//                      floorlists.txt, meshes.txt and packs.txt in DIR
+//   independent DIR    writes calls.txt, floors.txt, signs.txt, sheets.txt, fars.txt, corners.txt, tens.txt, mends.txt, solvers.txt,
+//                      lists.txt, floorlists.txt, meshes.txt and packs.txt in DIR
 //   independent -      answers the lines of standard input as the program calls does, a line each
-// A line of calls.txt, floors.txt, signs.txt, sheets.txt, fars.txt, corners.txt, tens.txt, mends.txt, meshes.txt and packs.txt is `a line
-// for the program calls -> its answer`; one of lists.txt is `a block in hex -> what the program verdicts prints, its lines joined by
-// " / "`, and one of floorlists.txt has the floor before the block.
+// A line of calls.txt, floors.txt, signs.txt, sheets.txt, fars.txt, corners.txt, tens.txt, mends.txt, solvers.txt, meshes.txt and
+// packs.txt is `a line for the program calls -> its answer`; one of lists.txt is `a block in hex -> what the program verdicts prints, its
+// lines joined by " / "`, and one of floorlists.txt has the floor before the block.
 
 mod answers;
 mod block;
@@ -25,6 +25,8 @@ mod sheet;
 mod sheets;
 mod sign;
 mod signs;
+mod solver;
+mod solvers;
 mod ten;
 mod tens;
 mod texts;
@@ -155,6 +157,7 @@ fn write_sets(dir: &str) {
     write("corners.txt", in_parallel(corners::questions(), answered));
     write("tens.txt", in_parallel(tens::questions(), answered));
     write("mends.txt", in_parallel(mends::questions(), answered));
+    write("solvers.txt", in_parallel(solvers::questions(), answered));
     let meshes = texts::questions().iter().chain(&texts::collapsed_questions()).map(texts::Question::line).collect();
     write("meshes.txt", in_parallel(meshes, answered));
     write("packs.txt", in_parallel(packs::questions().iter().map(packs::Question::line).collect(), answered));

@@ -28,6 +28,12 @@ pub fn answer(line: &[u8], out: &mut [u8]) -> usize {
     if is_word(line, 0, end, b"straighten") {
         return mend_lines::straighten_line(line, at, out);
     }
+    if is_word(line, 0, end, b"scale") {
+        return solver_lines::scale_line(line, at, out);
+    }
+    if is_word(line, 0, end, b"unscale") {
+        return solver_lines::unscale_line(line, at, out);
+    }
     block_answer(line, end, at, out)
 }
 

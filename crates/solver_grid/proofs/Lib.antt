@@ -1,0 +1,13 @@
+pub mod Product
+pub mod Quotient
+pub mod Whole
+pub mod Range
+pub mod Tests
+pub mod Pairs
+pub mod Answers
+pub mod Exact
+pub mod Numbers
+pub mod Ends
+pub mod Outcomes
+pub mod Returns
+pub mod Examples
