@@ -1,4 +1,5 @@
 // The calls `start_block` and `append_record`.
+#![tactic(auto)]
 ghost use Rattle.std.specs.Prelude.{◌≡◌, ◌+◌, ◌*◌, ◌≤◌, length};
 ghost use Rattle.element.specs.Refusals.{Coded};
 ghost use Rattle.endian.specs.Numbers.{over};
@@ -15,7 +16,7 @@ use faults::stored_code;
 use record::Record;
 
 // The code, the record number, and how many bytes are used.
-#[derive(Drop)]
+#[derive(Clone, Copy)]
 pub struct Started {
     pub code: u8,
     pub number: u32,
@@ -23,7 +24,7 @@ pub struct Started {
 }
 
 // The code, the record number, and how many bytes are used.
-#[derive(Drop)]
+#[derive(Clone, Copy)]
 pub struct Appended {
     pub code: u8,
     pub number: u32,

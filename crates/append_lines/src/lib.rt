@@ -1,11 +1,12 @@
 // The call `append`. The buffer stands in the line as hex.
+#![tactic(auto)]
 use append::append_record;
 use pieces::{buffer, naturals, unknown};
 use text::read::{hex, next, number, numbers, up_to, word_end};
 use text::write;
 
 // The numbers of an append before those of the coordinates, and the place behind them. Not ok where one is missing or beyond its type.
-#[derive(Drop)]
+#[derive(Clone, Copy)]
 struct Asked {
     ok: bool,
     used: u64,

@@ -1,4 +1,5 @@
 // The call `append_text`.
+#![tactic(auto)]
 mod fill;
 mod pass;
 mod values;
@@ -12,7 +13,7 @@ use record_text::Test;
 use record_text::find::fault;
 
 // The code, the record number, the line and the word of the text, how many bytes are used, and how many records were appended.
-#[derive(Drop)]
+#[derive(Clone, Copy)]
 pub struct Texted {
     pub code: u8,
     pub number: u32,
@@ -23,7 +24,7 @@ pub struct Texted {
 }
 
 // What a pass has met, and the line of the record that is refused, 0 where none is.
-#[derive(Drop)]
+#[derive(Clone, Copy)]
 pub struct Passed {
     pub tally: Tally,
     pub line: u64,

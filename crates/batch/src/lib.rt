@@ -1,4 +1,5 @@
 // Records that are tried one after another behind a good block, and written at once.
+#![tactic(auto)]
 mod bytes;
 mod narrow;
 
@@ -17,7 +18,7 @@ use record::Record;
 
 // What a pass has met: the code of the first refusal, the least id that may follow, how many records the block has with those
 // taken, the bytes behind them, how many were taken, and how many were passed over.
-#[derive(Drop)]
+#[derive(Clone, Copy)]
 pub struct Tally {
     pub code: u8,
     pub low: u64,

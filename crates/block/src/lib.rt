@@ -1,4 +1,5 @@
 // An element block: the calls `check_block` and `fetch_record`, and a record of a block that was checked.
+#![tactic(auto)]
 ghost use Rattle.std.specs.Prelude.{◌≡◌, ◌+◌, ◌*◌, ◌≤◌};
 ghost use Rattle.element.specs.Refusals.{Coded, Accepted};
 ghost use Rattle.record.specs.Record.{blank};
@@ -11,7 +12,7 @@ use record::{Record, fault, read_record};
 use signs::differs;
 
 // The code, the record number, and the count.
-#[derive(Drop)]
+#[derive(Clone, Copy)]
 pub struct Checked {
     pub code: u8,
     pub number: u32,
@@ -19,7 +20,7 @@ pub struct Checked {
 }
 
 // The code, the record number, and a record.
-#[derive(Drop)]
+#[derive(Clone, Copy)]
 pub struct Fetched {
     pub code: u8,
     pub number: u32,

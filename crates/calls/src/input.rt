@@ -5,7 +5,7 @@ use crate::answers::answer;
 use text::read::line_end;
 
 // What of the buffer is filled and not yet answered, whether it is the end of a line that was too long, and whether to go on.
-#[derive(Drop)]
+#[derive(Clone, Copy)]
 struct State {
     from: usize,
     have: usize,

@@ -1,4 +1,5 @@
 // One call a line of text in, one answer a line out.
+#![tactic(auto)]
 mod answers;
 mod input;
 

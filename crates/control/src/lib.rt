@@ -1,4 +1,5 @@
 // The calls `control_values` and `solver_bounds`.
+#![tactic(auto)]
 ghost use Rattle.std.specs.Prelude.{◌≡◌, cond, ◌++◌, ◌≤◌, ◌<◌, length, drop};
 ghost use Rattle.algebra.specs.Within.{Each};
 ghost use Rattle.element.specs.Control.{at};
@@ -8,7 +9,7 @@ ghost use Rattle.control.specs.Calls.{controlled, Handed, ControlValues, BoundsO
 use faults::element_code;
 
 // The code, the record number, and the number of values at the buffer's start.
-#[derive(Drop)]
+#[derive(Clone, Copy)]
 pub struct Controlled {
     pub code: u8,
     pub number: u32,
@@ -16,14 +17,14 @@ pub struct Controlled {
 }
 
 // The bounds of scaled J over an element.
-#[derive(Drop)]
+#[derive(Clone, Copy)]
 pub struct Bounds {
     pub lo: f64,
     pub hi: f64,
 }
 
 // Two bounds, or the code of a refusal.
-#[derive(Drop)]
+#[derive(Clone, Copy)]
 pub enum Bounded {
     Both(Bounds),
     Code(u8),

@@ -1,11 +1,12 @@
 // The first bad grid point that a judge knows of: "the least such level, the bad point with smallest j, then smallest i, the
 // scaled J there".
+#![tactic(auto)]
 ghost use Rattle.std.specs.Prelude.{◌≡◌};
 ghost use Rattle.corners.specs.First as first;
 
 // A bad grid point of a level and the scaled J there, or none. The value stands first and the flag last, so that a copy of the unused bytes
 // behind the flag crosses no other field.
-#[derive(Drop)]
+#[derive(Clone, Copy)]
 pub struct First {
     pub value: i64,
     pub level: u32,

@@ -1,6 +1,7 @@
 // Control values of a ten-node triangle: value (I, J, K) is 12/(4!/(I!J!K!)) times the sum, over i1+i2 = I, j1+j2 = J, k1+k2 = K, of
 // 2!/(i1!j1!k1!)·2!/(i2!j2!k2!)·det(R(i1,j1+1,k1) - R(i1+1,j1,k1), R(i2,j2,k2+1) - R(i2+1,j2,k2)). Control points stand by rising k,
 // then rising j.
+#![tactic(auto)]
 ghost use Rattle.std.specs.Prelude.{◌≡◌, [], ◌+◌, ◌/◌, ◌≤◌, ◌<◌, pos, get_or};
 ghost use Rattle.algebra.specs.Within.{Within};
 ghost use Rattle.forms.specs.Binomials as binomials;

@@ -10,14 +10,14 @@ ghost use Rattle.cubic_cuts.specs.Cells.{values2, values3, values4, degree2, deg
 ghost use Rattle.cubic_cuts.specs.Cells as cells;
 
 // Two values of a line.
-#[derive(Drop)]
+#[derive(Clone, Copy)]
 pub struct Line2 {
     pub a: i64,
     pub b: i64,
 }
 
 // Three values of a line.
-#[derive(Drop)]
+#[derive(Clone, Copy)]
 pub struct Line3 {
     pub a: i64,
     pub b: i64,
@@ -25,7 +25,7 @@ pub struct Line3 {
 }
 
 // Four values of a line.
-#[derive(Drop)]
+#[derive(Clone, Copy)]
 pub struct Line4 {
     pub a: i64,
     pub b: i64,
@@ -34,7 +34,7 @@ pub struct Line4 {
 }
 
 // Five values of a line.
-#[derive(Drop)]
+#[derive(Clone, Copy)]
 pub struct Line5 {
     pub a: i64,
     pub b: i64,
@@ -44,7 +44,7 @@ pub struct Line5 {
 }
 
 // The six values of a form of degree 2.
-#[derive(Drop)]
+#[derive(Clone, Copy)]
 pub struct Cell2 {
     pub v200: i64,
     pub v110: i64,
@@ -55,7 +55,7 @@ pub struct Cell2 {
 }
 
 // The ten values of a form of degree 3.
-#[derive(Drop)]
+#[derive(Clone, Copy)]
 pub struct Cell3 {
     pub v300: i64,
     pub v210: i64,
@@ -70,7 +70,7 @@ pub struct Cell3 {
 }
 
 // The fifteen values of a cell, a form of degree 4.
-#[derive(Drop)]
+#[derive(Clone, Copy)]
 pub struct Cell4 {
     pub v400: i64,
     pub v310: i64,

@@ -1,7 +1,8 @@
 // Cuttings as bytes (02, Ask 5): what reading one answers.
+#![tactic(auto)]
 
 // The place after what was read, or a failure.
-#[derive(Drop)]
+#[derive(Clone, Copy)]
 pub enum Read {
     Next(usize),
     Failed,

@@ -1,1 +1,2 @@
 // The kinds of element, their nodes, J, and their control values.
+#![tactic(auto)]

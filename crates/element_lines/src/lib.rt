@@ -1,4 +1,5 @@
 // The calls on one element: `control`, `bounds`, `verdict`, `floor`.
+#![tactic(auto)]
 use control::Bounded;
 use floor::{Profile, verdict_by};
 use pieces::{element, integers, naturals, room_and_kind, unknown};

@@ -1,1 +1,2 @@
 // Which number a float is. No code.
+#![tactic(auto)]

@@ -1,5 +1,6 @@
 // The call `floor_verdict` (02, Ask 3): a point of a triangle is bad where 100·J ≤ typeof.p.S, S the Jacobian of the straight-sided triangle. And
 // the profiles that elements are judged by.
+#![tactic(auto)]
 ghost use Rattle.std.specs.Prelude.{◌≡◌, ◌≤◌, pos, ◌*ℤ◌};
 ghost use Rattle.element.specs.Kinds.{six};
 ghost use Rattle.element.specs.Origin.{Inside};
@@ -15,7 +16,7 @@ use steps::Walk;
 use verdict::{Judged, Word, verdict};
 
 // What an element is judged by: the plain verdict, or a floor of so many percent on its distortion.
-#[derive(Drop)]
+#[derive(Clone, Copy)]
 pub enum Profile {
     Plain,
     Floor(u8),

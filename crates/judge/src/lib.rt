@@ -1,1 +1,2 @@
 // The verdict on an element.
+#![tactic(auto)]

@@ -1,4 +1,5 @@
 // The list of a block's verdicts as text: the calls `write_list`, and `write_floor_list` under a floor on distortion.
+#![tactic(auto)]
 ghost use Rattle.std.specs.Prelude.{◌≡◌, ◌*◌, length, take};
 ghost use Rattle.floor.specs.Calls.{ToldBy};
 ghost use Rattle.list.specs.Calls.{WritesBy, WritesList, WritesFloorList};
@@ -13,7 +14,7 @@ use text::write;
 use verdict::{Judged, Word};
 
 // The code, the record number, and the length of the list.
-#[derive(Drop)]
+#[derive(Clone, Copy)]
 pub struct Listed {
     pub code: u8,
     pub number: u32,

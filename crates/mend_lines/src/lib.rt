@@ -1,4 +1,5 @@
 // The calls `straighten` and `mend`. A block stands in the line as hex.
+#![tactic(auto)]
 use mending::straighten_record;
 use pieces::{block_and_record, buffer, coordinates, element, naturals, unknown};
 use straighten::{Moved, straighten};

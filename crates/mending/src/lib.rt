@@ -1,4 +1,5 @@
 // The call `straighten_record` (02, Ask 12): record k of a block with the fewest of its middle nodes replaced that make it valid.
+#![tactic(auto)]
 ghost use Rattle.std.specs.Prelude.{◌≡◌, cond, ◌+◌, ◌≤◌, ◌<◌, length};
 ghost use Rattle.block.specs.Block.{place};
 ghost use Rattle.block.specs.Changes.{with_sign};
@@ -12,7 +13,7 @@ use middles::Node;
 use straighten::{Moved, Straightened, refused, set, straighten, told};
 
 // The code, the record number, and what became of the middle nodes.
-#[derive(Drop)]
+#[derive(Clone, Copy)]
 pub struct Mended {
     pub code: u8,
     pub number: u32,

@@ -1,4 +1,5 @@
 // The call `append_mesh`.
+#![tactic(auto)]
 mod fill;
 mod pass;
 mod texts;
@@ -9,7 +10,7 @@ ghost use Rattle.mesh.specs.Calls.{refusal, AppendsMesh};
 use block::check_block;
 
 // The code, the record number, how many bytes are used, how many elements were appended, and how many were passed over.
-#[derive(Drop)]
+#[derive(Clone, Copy)]
 pub struct Meshed {
     pub code: u8,
     pub number: u32,

@@ -2,6 +2,7 @@
 // written is `code record used appended passed`; behind it, where the code is 0, stands the block. The line is one word where nothing
 // was judged: `limit` where the argument is no number from 0 to 255, `failed` where a read fails, `long` where the text has more than
 // 67,108,864 bytes.
+#![tactic(auto)]
 mod answer;
 mod input;
 

@@ -1,10 +1,11 @@
 // The form of a Gmsh text, row by row.
+#![tactic(auto)]
 pub mod rows;
 pub mod values;
 pub mod walk;
 
 // Where a walk over the rows of a text stands; a section that is passed over by the place of its mark.
-#[derive(Drop)]
+#[derive(Clone, Copy)]
 pub enum Part {
     Outside(bool),
     BeforeFormat,
@@ -16,14 +17,14 @@ pub enum Part {
 }
 
 // A place in the text and where the walk stands there.
-#[derive(Drop)]
+#[derive(Clone, Copy)]
 pub struct Cursor {
     pub at: usize,
     pub part: Part,
 }
 
 // A row: 1 of nodes, 2 of elements, 3 another, 0 for none; its place, and the cursor behind it.
-#[derive(Drop)]
+#[derive(Clone, Copy)]
 pub struct Found {
     pub kind: u8,
     pub at: usize,

@@ -1,4 +1,5 @@
 // The node numbers of a text: whether one stands twice, and whether one that an element wants is not listed.
+#![tactic(auto)]
 pub mod flag;
 pub mod look;
 pub mod mark;
@@ -12,7 +13,7 @@ use crate::look::look;
 use crate::mark::mark;
 
 // What a pass over a text has found: whether a number stands twice, or is not listed; and the least number above the window, or 2^32.
-#[derive(Drop)]
+#[derive(Clone, Copy)]
 pub struct Pass {
     pub found: bool,
     pub above: u64,

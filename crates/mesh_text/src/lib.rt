@@ -1,4 +1,5 @@
 // Words and rows of a Gmsh text, and what its words stand for: every function takes every input.
+#![tactic(auto)]
 pub mod row;
 pub mod word;
 
@@ -6,7 +7,7 @@ ghost use Rattle.std.specs.Prelude.{◌≡◌, ◌≤◌, length};
 ghost use Rattle.mesh_text.specs.Rows.{in_class, run as run_of, past as past_of};
 
 // What a byte is looked at for: a blank within a line, a byte of a word, a blank or a line feed, a byte of a line, a digit, a zero.
-#[derive(Drop)]
+#[derive(Clone, Copy)]
 pub enum Class {
     Blank,
     Word,

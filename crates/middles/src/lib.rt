@@ -1,17 +1,18 @@
 // The middles of a triangle's edges, rounded down, and a six-node triangle with some of its middle nodes replaced by them (02, Ask 12).
+#![tactic(auto)]
 ghost use Rattle.std.specs.Prelude.{◌≡◌, ◌*◌, ◌+◌, ◌<◌, ◌+ℤ◌, length};
 ghost use Rattle.element.specs.Nodes.{node};
 ghost use Rattle.middles.specs.Middles.{half, halfway, replacing, placed, as_node};
 
 // A place of the plane.
-#[derive(Drop)]
+#[derive(Clone, Copy)]
 pub struct Node {
     pub x: i32,
     pub y: i32,
 }
 
 // Which of the three middle nodes are replaced.
-#[derive(Drop)]
+#[derive(Clone, Copy)]
 pub struct Replaced {
     pub m01: bool,
     pub m12: bool,

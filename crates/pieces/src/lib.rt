@@ -1,4 +1,5 @@
 // What several answers are made of.
+#![tactic(auto)]
 ghost use Rattle.std.specs.Prelude.{◌≤◌, length};
 
 use points::coord;
@@ -22,7 +23,7 @@ pub fn last_word(line: &[u8], at: usize, bytes: &mut [u8]) -> usize {
 
 // What a call on a buffer and a text is asked: the bytes of the buffer that are used, and how many bytes the buffer and the text have.
 // Not ok where one of the three is missing, is no number of 64 bits, or is not all hex or too long.
-#[derive(Drop)]
+#[derive(Clone, Copy)]
 pub struct Handed {
     pub ok: bool,
     pub used: u64,
@@ -65,7 +66,7 @@ pub fn buffer_and_text(line: &[u8], from: usize, buffer: &mut [u8], text: &mut [
 
 // What a call on a record of a block is asked: how many bytes the block has, and the number of the record. Not ok where the block is not
 // all hex or too long, the number is none of 32 bits, or more follows.
-#[derive(Drop)]
+#[derive(Clone, Copy)]
 pub struct Named {
     pub ok: bool,
     pub size: usize,
@@ -103,7 +104,7 @@ pub fn block_and_record(line: &[u8], at: usize, bytes: &mut [u8]) -> Named
 
 // What a call on an element is asked: the kind, the level limit, and how many coordinates there are. Not ok where the kind or the limit
 // is no number up to 255, or the coordinates are not all numbers of 32 bits or more than there is room for.
-#[derive(Drop)]
+#[derive(Clone, Copy)]
 pub struct Drawn {
     pub ok: bool,
     pub kind: u8,
@@ -145,7 +146,7 @@ pub fn element(line: &[u8], at: usize, coords: &mut [i32]) -> Drawn
 
 // What a call that fills a buffer is asked first: how many places the buffer has, and the kind. Not ok where the one is no number up to 64
 // or the other none up to 255.
-#[derive(Drop)]
+#[derive(Clone, Copy)]
 pub struct Roomed {
     pub ok: bool,
     pub room: usize,

@@ -30,7 +30,7 @@ fn choose(n: usize, k: usize) -> usize
 }
 
 // A vector of the plane.
-#[derive(Drop)]
+#[derive(Clone, Copy)]
 struct Vector {
     x: i64,
     y: i64,

@@ -4,7 +4,7 @@ ghost use Rattle.algebra.specs.Within.{Each};
 ghost use Rattle.quad_cuts.specs.Halves.{half_of, line, Halved, half_u, half_v};
 
 // The four new values of a line.
-#[derive(Drop)]
+#[derive(Clone, Copy)]
 pub struct Line {
     pub a: i64,
     pub b: i64,

@@ -1,4 +1,5 @@
 // The quarters of a quad cell by a table, its sign test and its first bad corner; its halves stand in `by_halves`.
+#![tactic(auto)]
 pub mod by_halves;
 
 ghost use Rattle.std.specs.Prelude.{◌≡◌, ◌+◌, ◌<◌, T};

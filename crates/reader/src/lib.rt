@@ -1,4 +1,5 @@
 // A reader that holds the bytes of a block, and walks from its first record to its last.
+#![tactic(auto)]
 ghost use Rattle.std.specs.Prelude.{◌≡◌};
 ghost use Rattle.block.specs.Calls.{Fetches};
 ghost use Rattle.reader.specs.Steps.{over_at, step_at, Opens};
@@ -8,42 +9,42 @@ use block::{Checked, Fetched, check_block, refuse};
 use record::{Record, read_record};
 
 // The bytes of a block, and where the next record begins.
-#[derive(Drop)]
+#[derive(Clone, Copy)]
 pub struct Reader<'a> {
     pub slice: &'a [u8],
     pub place: usize,
 }
 
 // A record, or the end.
-#[derive(Drop)]
+#[derive(Clone, Copy)]
 pub struct Next {
     pub over: bool,
     pub found: Record,
 }
 
 // What a step on a plain slice finds, and where the next one begins.
-#[derive(Drop)]
+#[derive(Clone, Copy)]
 pub struct Found {
     pub next: Next,
     pub at: usize,
 }
 
 // What a step finds, and the reader for the next one.
-#[derive(Drop)]
+#[derive(Clone, Copy)]
 pub struct Stepped<'a> {
     pub next: Next,
     pub reader: Reader<'a>,
 }
 
 // What the check of a plain slice answers, and where the first record begins.
-#[derive(Drop)]
+#[derive(Clone, Copy)]
 pub struct Begun {
     pub checked: Checked,
     pub at: usize,
 }
 
 // What the check answers, and the reader for the first step.
-#[derive(Drop)]
+#[derive(Clone, Copy)]
 pub struct Opened<'a> {
     pub checked: Checked,
     pub reader: Reader<'a>,

@@ -1,4 +1,5 @@
 // One record of an element block: its 80 bytes are read and tested.
+#![tactic(auto)]
 ghost use Rattle.std.specs.Prelude.{◌≡◌, true, false, ◌+◌, ◌*◌, ◌≤◌, length, take, drop};
 ghost use Rattle.algebra.specs.Within.{Each};
 ghost use Rattle.element.specs.Kinds.{NotStored, kind_of};
@@ -11,7 +12,7 @@ use faults::{greatest_level, node_code, stored};
 use points::within;
 
 // Id, kind, level limit, the two bytes of the sign, and nine pairs of coordinates.
-#[derive(Drop)]
+#[derive(Clone, Copy)]
 pub struct Record {
     pub id: u32,
     pub kind: u8,

@@ -1,4 +1,5 @@
 // The calls `write_sheet` and `check_sheet` (02, Ask 5).
+#![tactic(auto)]
 ghost use Rattle.std.specs.Prelude.{◌≡◌, eqb};
 ghost use Rattle.element.specs.Kinds.{NotStored, kind_of};
 ghost use Rattle.element.specs.Control.{control_values};
@@ -17,14 +18,14 @@ use text::write::word;
 use verdict::is_valid;
 
 // The code, and the record number.
-#[derive(Drop)]
+#[derive(Clone, Copy)]
 pub struct CheckedSheet {
     pub code: u8,
     pub number: u32,
 }
 
 // The code, the record number, and the number of bytes at the buffer's start.
-#[derive(Drop)]
+#[derive(Clone, Copy)]
 pub struct WrittenSheet {
     pub code: u8,
     pub number: u32,

@@ -1,4 +1,5 @@
 // The calls `sign_record`, `to_version_2` and `to_version_1`.
+#![tactic(auto)]
 ghost use Rattle.std.specs.Prelude.{◌≡◌, ◌≤◌, length};
 ghost use Rattle.block.specs.Calls.{ChecksBy};
 ghost use Rattle.block.specs.Changes.{with_version};
@@ -10,14 +11,14 @@ use block::{Checked, check_block, next_signed, record_at, version_code};
 use signs::{judge, limit_of, sign_of};
 
 // The code, and the record number.
-#[derive(Drop)]
+#[derive(Clone, Copy)]
 pub struct Changed {
     pub code: u8,
     pub number: u32,
 }
 
 // The code, the record number, and the two bytes of a sign.
-#[derive(Drop)]
+#[derive(Clone, Copy)]
 pub struct Sign {
     pub code: u8,
     pub number: u32,

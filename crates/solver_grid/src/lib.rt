@@ -1,4 +1,5 @@
 // The calls `scale_coordinates` and `unscale_coordinates`: a solver's coordinates on a grid of 1/1024, to whole numbers and back.
+#![tactic(auto)]
 ghost use Rattle.std.specs.Prelude.{◌≡◌, ◌≤◌, true, false, length};
 ghost use Rattle.element.specs.Refusals.{Coded};
 ghost use Rattle.solver_grid.specs.Grid.{OnGrid, Stands, Tells, SomeOff, Over};
@@ -16,7 +17,7 @@ ghost use Rattle.solver_grid.specs.Calls.{
 use faults::stored;
 
 // The code, the record number, and the number of places that are filled at the buffer's start.
-#[derive(Drop)]
+#[derive(Clone, Copy)]
 pub struct Scaled {
     pub code: u8,
     pub number: u32,
@@ -24,7 +25,7 @@ pub struct Scaled {
 }
 
 // The whole number that a float stands for on the grid, or that there is none.
-#[derive(Drop)]
+#[derive(Clone, Copy)]
 pub enum Found {
     Number(i32),
     Nothing,

@@ -7,7 +7,7 @@ use text::read::{hex, next, word_end};
 use text::write;
 
 // A float as it is written, and the place of the next word. Not ok where there are not 16 hex digits.
-#[derive(Drop)]
+#[derive(Clone, Copy)]
 struct Written64 {
     ok: bool,
     value: f64,

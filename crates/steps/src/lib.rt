@@ -1,4 +1,5 @@
 // What a walk over cells answers, and the steps that both walks take with it.
+#![tactic(auto)]
 ghost use Rattle.std.specs.Prelude.{◌≡◌, ◌+◌, ◌<◌, max};
 ghost use Rattle.corners.specs.First.{nothing};
 ghost use Rattle.steps.specs.Steps as steps;
@@ -6,7 +7,7 @@ ghost use Rattle.steps.specs.Steps as steps;
 use corners::{First, better};
 
 // The first bad point known, the deepest level of a cell that was kept, how many cells were kept, and how many of them do not pass.
-#[derive(Drop)]
+#[derive(Clone, Copy)]
 pub struct Walk {
     pub best: First,
     pub deep: u32,

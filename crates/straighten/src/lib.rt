@@ -1,4 +1,5 @@
 // The call `straighten` (02, Ask 12): the fewest middle nodes of a triangle, replaced by the middles of their edges, that make it valid.
+#![tactic(auto)]
 ghost use Rattle.std.specs.Prelude.{◌≡◌, true, false, ◌<◌, length};
 ghost use Rattle.element.specs.Nodes.{node};
 ghost use Rattle.element.specs.Refusals.{Accepted, level_codes};
@@ -13,7 +14,7 @@ use middles::{Node, Replaced, new_node, node_at, with_set};
 use verdict::{is_valid, verdict};
 
 // What became of a middle node: whether it was replaced, its old and its new place.
-#[derive(Drop)]
+#[derive(Clone, Copy)]
 pub struct Moved {
     pub replaced: bool,
     pub old: Node,
@@ -21,7 +22,7 @@ pub struct Moved {
 }
 
 // The code, the record number, the new coordinates, and what became of the middle nodes.
-#[derive(Drop)]
+#[derive(Clone, Copy)]
 pub struct Straightened {
     pub code: u8,
     pub number: u32,

@@ -2,14 +2,14 @@
 ghost use Rattle.std.specs.Prelude.{◌+◌, ◌≤◌, length};
 
 // How many bytes of a room are filled, and whether no read failed.
-#[derive(Drop)]
+#[derive(Clone, Copy)]
 pub struct Filled {
     pub ok: bool,
     pub have: usize,
 }
 
 // One read: what it answered, and how many bytes came.
-#[derive(Drop)]
+#[derive(Clone, Copy)]
 struct Came {
     got: isize,
     bytes: usize,

@@ -2,7 +2,7 @@
 ghost use Rattle.std.specs.Prelude.{◌+◌, ◌≤◌, ◌<◌};
 
 // A number as it is written, its sign apart, and the place of the next word. Not ok where there is no number of 64 bits.
-#[derive(Drop)]
+#[derive(Clone, Copy)]
 pub struct Written {
     pub ok: bool,
     pub negative: bool,
@@ -11,7 +11,7 @@ pub struct Written {
 }
 
 // A number of 32 bits with its sign, and the place of the next word.
-#[derive(Drop)]
+#[derive(Clone, Copy)]
 pub struct Written32 {
     pub ok: bool,
     pub value: i32,

@@ -1,4 +1,5 @@
 // The call `verdict`.
+#![tactic(auto)]
 ghost use Rattle.std.specs.Prelude.{◌≡◌, ◌≤◌};
 ghost use Rattle.element.specs.Kinds.{six, ten};
 ghost use Rattle.element.specs.Control.{control_values};
@@ -12,7 +13,7 @@ use faults::verdict_code;
 use steps::Walk;
 
 // The word of a verdict; nothing where the call is refused.
-#[derive(Drop)]
+#[derive(Clone, Copy)]
 pub enum Word {
     Nothing,
     Valid,
@@ -21,7 +22,7 @@ pub enum Word {
 }
 
 // The code, the record number, and the verdict.
-#[derive(Drop)]
+#[derive(Clone, Copy)]
 pub struct Judged {
     pub code: u8,
     pub number: u32,

@@ -1,1 +1,2 @@
 // The law of walks over cells.
+#![tactic(auto)]

@@ -1,0 +1,21 @@
+-- `none_negative` meets its contract: the loop keeps that it has the test of the values before place k. Assumes nothing.
+use mathlib.Core.Path.{◌≡◌, refl, sym, ◌∙◌, ap}
+use Prim.Native.Nat.{◌-◌, ◌≤◌, ◌<◌, zero-le}
+use native.Mathlib.Numerals.{add-one}
+use native.Mathlib.Omega.{arith}
+use lib.IntN.{pos}
+use lib.ListN.{get_or, length, take}
+use lib.Seq.{take_all}
+use borrow.Author.Rules.{rules}
+use mir.Syntax.{w64}
+use mir.Val.{to_z, of_z}
+use Rattle.forms.specs.Cells.{non_negatives}
+use Rattle.cells.proofs.Parts.{non_negatives-more}
+use Rattle.cells.proofs.none_negative.Goals as goal
+
+pub loop-k-preserved : goal.loop-k-preserved
+loop-k-preserved c =
+    let k = c.loop-k.k in
+    let v = c.args.c.now in
+    let e : to_z w64 (of_z w64 (get_or v k (pos 0))) ≡ get_or v k (pos 0) = search rules in
+    (omega arith, rw (e, c.loop-k.invariant.1, add-one k) (sym (non_negatives-more v k (omega arith))))
