@@ -64,7 +64,13 @@ fn fill<R: Read>(input: &mut R, line: &mut [u8], kept: usize) -> usize
 }
 
 // One step: a line that is there is answered; else more is read.
-fn step<R: Read, P: Print>(input: &mut R, to: &P, line: &mut [u8], s: State, out: &mut [u8]) -> io::Result<State>
+fn step<R: Read, P: Print>(
+    input: &mut R,
+    to: &P,
+    line: &mut [u8],
+    s: State,
+    out: &mut [u8],
+) -> io::Result<State>
     requires { s.have ≤ length line.old }
     ensures { IfOk result (λ t. t.have ≤ length line.old) }
 {
@@ -109,7 +115,12 @@ fn step<R: Read, P: Print>(input: &mut R, to: &P, line: &mut [u8], s: State, out
 
 // A proved loop has to end, and nothing says that the input does. So the loop counts its turns down, from a number that no run
 // uses up.
-pub fn run<R: Read, P: Print>(input: &mut R, to: &P, line: &mut [u8], out: &mut [u8]) -> io::Result<()> {
+pub fn run<R: Read, P: Print>(
+    input: &mut R,
+    to: &P,
+    line: &mut [u8],
+    out: &mut [u8],
+) -> io::Result<()> {
     let mut s = State {
         from: 0,
         have: 0,

@@ -1,5 +1,6 @@
 // One call a line of text in, one answer a line out.
 #![tactic(auto)]
+
 mod answers;
 mod input;
 

@@ -1,6 +1,7 @@
 // The first bad grid point that a judge knows of: "the least such level, the bad point with smallest j, then smallest i, the
 // scaled J there".
 #![tactic(auto)]
+
 ghost use Rattle.std.specs.Prelude.{◌≡◌};
 ghost use Rattle.corners.specs.First as first;
 

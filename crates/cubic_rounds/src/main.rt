@@ -1,6 +1,7 @@
 // Judges each ten-node triangle on standard input 64 times, and prints the most cells of any: the judge without text, for ./bench. The
 // input has up to 800 records, as the crate ten_records reads them.
 #![tactic(auto)]
+
 use endian::get_u32;
 use std::io;
 use streams::input::fill;

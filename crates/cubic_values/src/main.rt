@@ -1,6 +1,7 @@
 // Forms the control values of each ten-node triangle on standard input 64 times, and prints how often none of the fifteen was negative: the
 // values without the walk, for ./bench. The input has up to 800 records, as the crate ten_records reads them.
 #![tactic(auto)]
+
 use cells::none_negative;
 use control::control_values;
 use std::io;

@@ -61,7 +61,13 @@ fn in_large<R: Read, P: Print>(input: &mut R, to: &P, first: &[u8], limit: u8) -
 
 // Reads the text, with so many rooms left: two, the small one first; one, the large one; none where it is settled. The compiler takes
 // no large array into a function that calls itself, so the large room is on the stack only while it is used.
-pub fn read_in<R: Read, P: Print>(input: &mut R, to: &P, first: &[u8], rooms: u8, limit: u8) -> io::Result<()> {
+pub fn read_in<R: Read, P: Print>(
+    input: &mut R,
+    to: &P,
+    first: &[u8],
+    rooms: u8,
+    limit: u8,
+) -> io::Result<()> {
     if rooms == 0 {
         return Ok(());
     }

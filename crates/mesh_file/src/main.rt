@@ -3,6 +3,7 @@
 // was judged: `limit` where the argument is no number from 0 to 255, `failed` where a read fails, `long` where the text has more than
 // 67,108,864 bytes.
 #![tactic(auto)]
+
 mod answer;
 mod input;
 

@@ -2,6 +2,7 @@
 // `code record line word used appended`; behind it, where the code is 0, stands the block. The line is one word where nothing was
 // tried: `failed` where a read fails, `long` where the text has more than 1,048,576 bytes.
 #![tactic(auto)]
+
 mod answer;
 
 use std::io;

@@ -1,5 +1,6 @@
 // Judges each element of the block on standard input 64 times, and prints the most cells of any: the judge without text, for ./bench.
 #![tactic(auto)]
+
 use block::{check_block, record_at};
 use signs::judge;
 use std::io;

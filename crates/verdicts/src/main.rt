@@ -1,6 +1,7 @@
 // Prints the list of the element block on standard input; with a number from 0 to 255 as its only argument, the list under a floor of so
 // many percent on distortion. With any other arguments it prints only `floor`.
 #![tactic(auto)]
+
 ghost use Rattle.std.specs.Prelude.{◌≤◌, ◌<◌, length, take};
 ghost use Rattle.block.specs.Block.{place};
 ghost use Rattle.verdicts.specs.Input.{ListsInput};
