@@ -1,7 +1,6 @@
 -- `points::across` meets its contract: differences of points are as small as the determinant asks.
-use Rattle.algebra.proofs.Within.{each_nil, each-cons, got, st, via, seen, i-sub, i-mul}
+use Rattle.algebra.proofs.Within.{each_nil, each-cons, got, seen}
 use Rattle.points.proofs.Points.{step_small}
-use borrow.Author.Rules.{rules}
 use Rattle.points.proofs.across.Goals as goal
 
 pub det-requires : goal.det-requires
