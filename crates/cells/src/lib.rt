@@ -1,5 +1,6 @@
 // What the cells of triangles and of quads share: a sum by a row of weights, and the test that no value is negative.
 #![tactic(auto)]
+
 ghost use Rattle.std.specs.Prelude.{◌≡◌, pos};
 ghost use Rattle.forms.specs.Cells.{dot, non_negatives};
 ghost use Rattle.cells.specs.Room.{Room};

@@ -1,15 +1,12 @@
 -- `none_negative` meets its contract: the loop keeps that it has the test of the values before place k. Assumes nothing.
-use mathlib.Core.Path.{◌≡◌, refl, sym, ◌∙◌, ap}
-use Prim.Native.Nat.{◌-◌, ◌≤◌, ◌<◌, zero-le}
+use mathlib.Core.Path.{◌≡◌, sym}
 use native.Mathlib.Numerals.{add-one}
 use native.Mathlib.Omega.{arith}
 use lib.IntN.{pos}
-use lib.ListN.{get_or, length, take}
-use lib.Seq.{take_all}
+use lib.ListN.{get_or}
 use borrow.Author.Rules.{rules}
 use mir.Syntax.{w64}
 use mir.Val.{to_z, of_z}
-use Rattle.forms.specs.Cells.{non_negatives}
 use Rattle.cells.proofs.Parts.{non_negatives-more}
 use Rattle.cells.proofs.none_negative.Goals as goal
 

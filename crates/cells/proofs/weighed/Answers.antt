@@ -1,22 +1,20 @@
 -- `weighed` meets its contract: the loop keeps that it has the sum of the terms before place k. Assumes nothing.
-use mathlib.Core.Path.{◌≡◌, refl, sym, ◌∙◌, ap}
+use mathlib.Core.Path.{◌≡◌, refl, ◌∙◌}
 use mathlib.Core.List.{List}
-use Prim.Native.Nat.{ℕ, suc, ◌-◌, ◌*◌, ◌≤◌, ◌<◌, zero-le}
+use Prim.Native.Nat.{ℕ, suc, ◌*◌, zero-le}
 use native.Mathlib.Numerals.{add-one}
 use native.Mathlib.Omega.{arith}
 use borrow.Author.Rules.{rules, sfits_of}
 use lib.IntN.{ℤ, pos, ◌+ℤ◌, ◌*ℤ◌}
-use lib.ListN.{length, take, get_or}
-use lib.Seq.{take_all}
+use lib.ListN.{take, get_or}
 use mir.Syntax.{w64}
 use mir.Val.{to_z, of_z}
 use mir.Facts.{to_z-of_z}
 use Rattle.algebra.specs.Within.{Is}
 use Rattle.algebra.proofs.Within.{fits-at, st-at}
 use Rattle.forms.specs.Rows.{Row, total, weigh}
-use Rattle.forms.specs.Cells.{dot}
 use Rattle.cells.specs.Room.{Room}
-use Rattle.cells.proofs.Parts.{term_is, sum_is, more-is}
+use Rattle.cells.proofs.Parts.{term_is, more-is}
 use Rattle.cells.proofs.weighed.Goals as goal
 
 pub loop-k-init : goal.loop-k-init
@@ -32,7 +30,7 @@ overflow_mul-sum c =
     let room : Room row values = c.requires in
     let product : ℤ = to_z w64 (of_z w64 c.signed.result) *ℤ to_z w64 (of_z w64 (value turn)) in
     let term : Is (total row * room.size) (pos (get_or row turn 0) *ℤ value turn) product = (let e : to_z w64 (of_z w64 (value turn)) ≡ value turn = search rules in
-    term_is room turn (to_z-of_z (sfits_of c.signed.type_inv) ∙ c.signed.ensures) e) in
+    term_is room turn (to_z-of_z {w = w64} (sfits_of c.signed.type_inv) ∙ c.signed.ensures) e) in
     fits-at term room.below
 
 pub overflow_add-sum : goal.overflow_add-sum
@@ -44,8 +42,8 @@ overflow_add-sum c =
     let room : Room row values = c.requires in
     let product : ℤ = to_z w64 (of_z w64 c.signed.result) *ℤ to_z w64 (of_z w64 (value turn)) in
     let term : Is (total row * room.size) (pos (get_or row turn 0) *ℤ value turn) product = (let e : to_z w64 (of_z w64 (value turn)) ≡ value turn = search rules in
-    term_is room turn (to_z-of_z (sfits_of c.signed.type_inv) ∙ c.signed.ensures) e) in
-    let more : Is (total row * room.size) (weigh (take (suc turn) row) value) (c.loop-k.sum +ℤ to_z w64 (of_z w64 product)) = more-is room turn (omega arith) c.loop-k.invariant.1 (st-at term room.below).same in
+    term_is room turn (to_z-of_z {w = w64} (sfits_of c.signed.type_inv) ∙ c.signed.ensures) e) in
+    let more : Is (total row * room.size) (weigh (take (suc turn) row) value) (to_z w64 c.loop-k.sum-bits +ℤ to_z w64 (of_z w64 product)) = more-is room turn (omega arith) c.loop-k.invariant.1 (st-at term room.below).same in
     fits-at more room.below
 
 pub loop-k-preserved : goal.loop-k-preserved
@@ -57,6 +55,6 @@ loop-k-preserved c =
     let room : Room row values = c.requires in
     let product : ℤ = to_z w64 (of_z w64 c.signed.result) *ℤ to_z w64 (of_z w64 (value turn)) in
     let term : Is (total row * room.size) (pos (get_or row turn 0) *ℤ value turn) product = (let e : to_z w64 (of_z w64 (value turn)) ≡ value turn = search rules in
-    term_is room turn (to_z-of_z (sfits_of c.signed.type_inv) ∙ c.signed.ensures) e) in
-    let more : Is (total row * room.size) (weigh (take (suc turn) row) value) (c.loop-k.sum +ℤ to_z w64 (of_z w64 product)) = more-is room turn (omega arith) c.loop-k.invariant.1 (st-at term room.below).same in
+    term_is room turn (to_z-of_z {w = w64} (sfits_of c.signed.type_inv) ∙ c.signed.ensures) e) in
+    let more : Is (total row * room.size) (weigh (take (suc turn) row) value) (to_z w64 c.loop-k.sum-bits +ℤ to_z w64 (of_z w64 product)) = more-is room turn (omega arith) c.loop-k.invariant.1 (st-at term room.below).same in
     (omega arith, rw (add-one turn) (st-at more room.below).same)
