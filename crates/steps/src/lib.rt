@@ -1,5 +1,6 @@
 // What a walk over cells answers, and the steps that both walks take with it.
 #![tactic(auto)]
+
 ghost use Rattle.std.specs.Prelude.{◌≡◌, ◌+◌, ◌<◌, max};
 ghost use Rattle.corners.specs.First.{nothing};
 ghost use Rattle.steps.specs.Steps as steps;

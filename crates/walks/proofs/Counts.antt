@@ -134,7 +134,7 @@ module _ (S : Shape) (W : Lawful S) where
         all e k ih =
             let r = run_none G.plan w stop k in
             subst (Counted (suc n) l c) (sym r.all)
-            (counted-cut n l c (λ q. w q stop) (total G.plan (λ q. w q stop)) e (C.fair (λ q. w q stop)) (λ q. ih q (r.each q (C.Has-All q))))
+            (counted-cut n l c (λ q. w q stop) (total G.plan (λ q. w q stop)) e (C.fair (λ q. w q stop)) (λ q. ih q (r.each q (C.has_all q))))
 
         -- a cell above the limit is left only with a bad corner
         halted : (b t : Bool) → leb stop l ≡ t → (b || t) ≡ true → b ≡ true

@@ -305,7 +305,7 @@ module _ (S : Shape) (W : Lawful S) (G : Chart) (C : Charted S G) where
       (cuts S G n l stop p c).best (run-best n l p c G.plan stop (λ q s. walk S G n (l + 1) s (G.sub q p) (cut_to S q c)) ih)
     where
       down : (x : First) → Met (suc n) l stop p c x → Part n l p c G.plan stop x
-      down x m = let (q, k) = met-down n l stop p c x f m in part-put n l p c G.plan stop x q (C.Has-All q) k
+      down x m = let (q, k) = met-down n l stop p c x f m in part-put n l p c G.plan stop x q (C.has_all q) k
 
   abbrev Finds : ℕ → ℕ → ℕ → G.Place → List ℤ → Walk → Type 0
   Finds n l stop p c w = Best (Met n l stop p c) w.best

@@ -9,7 +9,7 @@ use Prim.Native.Nat.{ℕ, ◌^◌, ◌≤◌}
 use native.Mathlib.Nat as N
 use native.Mathlib.Omega.{arith}
 use native.Mathlib.Decide.{dec_le}
-use lib.Dec.{T, eqb, eqb→eq, eqb_refl}
+use lib.Dec.{eqb, eqb→eq, eqb_refl}
 use lib.IntN.{ℤ, pos}
 use lib.Signed.{◌≤ℤ◌}
 use Rattle.algebra.proofs.Truth.{T_false}
