@@ -1,5 +1,6 @@
 // The sign test of a cell of a ten-node triangle and its first bad corner; its quarters stand in `by_sums`.
 #![tactic(auto)]
+
 pub mod by_sums;
 
 ghost use Rattle.std.specs.Prelude.{◌≡◌};

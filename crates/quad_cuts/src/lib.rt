@@ -1,5 +1,6 @@
 // The quarters of a quad cell by a table, its sign test and its first bad corner; its halves stand in `by_halves`.
 #![tactic(auto)]
+
 pub mod by_halves;
 
 ghost use Rattle.std.specs.Prelude.{◌≡◌, ◌+◌, ◌<◌, T};

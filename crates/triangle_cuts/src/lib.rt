@@ -1,5 +1,6 @@
 // The quarters of a triangle cell by a table, its sign test and its first bad corner; the same quarters by sums stand in `by_sums`.
 #![tactic(auto)]
+
 pub mod by_sums;
 
 ghost use Rattle.std.specs.Prelude.{◌≡◌, ◌<◌, T};

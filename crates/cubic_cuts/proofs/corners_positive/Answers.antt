@@ -1,0 +1,17 @@
+-- `corners_positive` meets its contract: its tests are those of the corners, one by one. Assumes nothing.
+use mathlib.Core.Path.{◌≡◌}
+use borrow.Author.Rules.{rules}
+use lib.IntN.{pos}
+use lib.ListN.{get_or}
+use mir.Syntax.{w64}
+use mir.Val.{to_z, of_z}
+use Rattle.cells.proofs.Parts.{three-test}
+use Rattle.cubic_cuts.proofs.corners_positive.Goals as goal
+
+pub returns : goal.returns
+returns c =
+    let v = c.args.c.now in
+    let e0 : to_z w64 (of_z w64 (get_or v 0 (pos 0))) ≡ get_or v 0 (pos 0) = search rules in
+    let e4 : to_z w64 (of_z w64 (get_or v 4 (pos 0))) ≡ get_or v 4 (pos 0) = search rules in
+    let e14 : to_z w64 (of_z w64 (get_or v 14 (pos 0))) ≡ get_or v 14 (pos 0) = search rules in
+    rw (e0, e4, e14) (three-test v 0 4 14)
