@@ -28,14 +28,13 @@ as-far {f = f} {l = l} e p = subst (λ n. Filled 10 n f l) e p
 
 pub loop-k-preserved : goal.loop-k-preserved
 loop-k-preserved c =
-    let turn = c in let start = turn in let first = turn.coord-from.ensures in
-    let v = start.args.xs.now in let a = start.args.axis in
+    let v = c.args.xs.now in let a = c.args.axis in
     let e = c.less.ensures.value
-    ∙ ap (λ m. less v (2 * m + a) (to_z w64 (of_z w64 turn.coord-from.result))) c.place-at.ensures
-    ∙ ap (less v (2 * place start.args.gap turn.loop-k.k + a)) (to_z-of_z {w = w64} (sfits_of turn.coord-from.type_inv) ∙ first.value)
-    ∙ less-axis v (place start.args.gap turn.loop-k.k) a start.requires.1
-    ∙ sym (among (from_first v) start.args.gap a turn.loop-k.k (omega arith)) in
-    (omega arith, fill_more turn.loop-k.invariant.1 (omega arith) (to_z-of_z {w = w64} (sfits_of c.less.type_inv) ∙ e))
+    ∙ ap (λ m. less v (2 * m + a) (to_z w64 (of_z w64 c.coord-from.result))) c.place-at.ensures
+    ∙ ap (less v (2 * place c.args.gap c.loop-k.k + a)) (to_z-of_z {w = w64} (sfits_of c.coord-from.type_inv) ∙ c.coord-from.ensures.value)
+    ∙ less-axis v (place c.args.gap c.loop-k.k) a c.requires.1
+    ∙ sym (among (from_first v) c.args.gap a c.loop-k.k (omega arith)) in
+    (omega arith, fill_more c.loop-k.invariant.1 (omega arith) (to_z-of_z {w = w64} (sfits_of c.less.type_inv) ∙ e))
 
 pub returns : goal.returns
 returns c =

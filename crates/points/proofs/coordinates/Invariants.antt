@@ -1,3 +1,4 @@
+-- `points::coordinates` meets its contract: the loop keeps that the first k places are filled, and the last is filled behind it.
 use mathlib.Core.Bool.{cond}
 use Prim.Native.Nat.{◌+◌, ◌*◌, ◌-◌, ◌≤◌}
 use lib.Dec.{ltb}

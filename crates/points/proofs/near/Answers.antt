@@ -1,4 +1,5 @@
 -- `points::near` meets its contract: the loop keeps whether the first i differences are within the limit, and that the numbers are of 32
+-- bits. Assumes nothing.
 use mathlib.Core.Path.{◌≡◌, refl, ◌∙◌, ap, ap₂}
 use native.Mathlib.Omega.{arith}
 use borrow.Author.Count.{below_more}

@@ -1,3 +1,5 @@
+-- `points::near` meets its contract: the loop keeps whether the first i differences are within the limit, and that the numbers are of 32
+-- bits. Assumes nothing.
 use Prim.Native.Nat.{ℕ, ◌-◌, ◌≤◌, ◌<◌}
 use lib.ListN.{length}
 use Rattle.element.specs.Control.{at}

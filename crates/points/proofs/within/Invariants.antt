@@ -1,3 +1,4 @@
+-- `points::within` meets its contract: the loop keeps whether the first k are within the limit. Assumes nothing.
 use Prim.Native.Nat.{◌-◌, ◌≤◌}
 use lib.ListN.{length}
 use Rattle.points.proofs.Limits.{InLimit}
