@@ -1,6 +1,7 @@
 // The walk over the cells of a triangle (01: "A cell that does not pass is split in four"). A cell stands at the grid point (i, j),
 // its first corner; its second and third corner stand a column and a row on where it points up, and back where it points down.
 #![tactic(auto)]
+
 ghost use Rattle.std.specs.Prelude.{◌≡◌, false};
 ghost use Rattle.forms.specs.Shapes.{pass};
 ghost use Rattle.forms.specs.Triangles.{six};
