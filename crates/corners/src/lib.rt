@@ -30,6 +30,7 @@ pub fn none_found() -> First
 }
 
 // What a cell's corner with this value says.
+#[tactic(auto, unfolding(crate::specs::First::corner))]
 pub fn corner(value: i64, level: u32, i: u32, j: u32) -> First
     ensures { result ≡ first.corner value level i j }
 {
