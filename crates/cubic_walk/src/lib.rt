@@ -1,6 +1,7 @@
 // The walk over the cells of a ten-node triangle, of fifteen values (01: "A cell that does not pass is split in four"). Cells stand as
 // in the walk over those of six.
 #![tactic(auto)]
+
 ghost use Rattle.std.specs.Prelude.{◌≡◌, false};
 ghost use Rattle.forms.specs.Shapes.{pass};
 ghost use Rattle.forms.specs.Triangles.{ten};
