@@ -1,6 +1,7 @@
 // The walk over the cells of a quad (01: "A quad cell is halved along u and each half along v"). A half is not a cell: it is
 // never tested.
 #![tactic(auto)]
+
 ghost use Rattle.std.specs.Prelude.{◌≡◌, false, ◌+◌, ◌*◌, ◌/◌};
 ghost use Rattle.forms.specs.Shapes.{pass};
 ghost use Rattle.forms.specs.Quads.{quad};
