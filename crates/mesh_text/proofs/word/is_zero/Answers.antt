@@ -8,7 +8,6 @@ use lib.Dec.{eqb}
 use Rattle.mesh_text.specs.Tests.{whole_b, size_of, zero_b}
 use Rattle.mesh_text.proofs.word.is_zero.Goals as goal
 
--- `mesh_text::word::is_zero` meets its contract: a size that is cut at a bound above 0 is 0 where the size is.
 clip-zero : (n : ℕ) → eqb (min 4294967295 n) 0 ≡ eqb n 0
 clip-zero zero = refl
 clip-zero (suc n) = ne_eqb (min 4294967295 (suc n)) 0 (λ e. absurd (omega arith)) ∙ sym (ne_eqb (suc n) 0 (λ e. absurd (omega arith)))

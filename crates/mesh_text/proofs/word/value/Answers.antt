@@ -9,7 +9,6 @@ use mir.ValLaws.{to_z_pos, to_z-of_z}
 use Rattle.mesh_text.specs.Tests.{clipped, size_of, signed_by}
 use Rattle.mesh_text.proofs.word.value.Goals as goal
 
--- `mesh_text::word::value` meets its contract, by the two signs.
 -- the negative of a number that the machine holds
 minus_is : (k : ℕ) → k < 9223372036854775808 → to_z w64 0 -ℤ to_z w64 k ≡ neg_ℤ (pos k)
 minus_is k h = ap (λ (z : ℤ). to_z w64 0 -ℤ z) (to_z_pos w64 k h) ∙ +ℤ_idl (neg_ℤ (pos k))
