@@ -4,10 +4,10 @@
 --   answered-apart    : so the corners of an element that has a verdict differ
 --   diagonals-called, looped-called : the two quads, and the ten-node triangle, that would be valid have 21 under every limit of their kind
 -- Over the contract alone. Assumes nothing.
-use mathlib.Core.Path.{◌≡◌, refl, sym, ◌∙◌, ap}
+use mathlib.Core.Path.{◌≡◌, sym, ◌∙◌, ap}
 use mathlib.Core.List.{List, [], ◌∷◌}
 use mathlib.Core.Logic.{inl, inr}
-use Prim.Native.Nat.{ℕ, ◌≤◌}
+use Prim.Native.Nat.{ℕ}
 use native.Mathlib.Omega.{arith}
 use lib.IntN.{ℤ}
 use Rattle.element.specs.Kinds.{kind_of, NotKind}
