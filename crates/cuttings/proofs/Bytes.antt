@@ -4,7 +4,7 @@
 --   sheet-unique   : the same sheet is the same cutting
 --   sheet-size     : the sheet of a cutting into m cells has 5 + (4m - 1) / 3 bytes
 -- Assumes nothing.
-use mathlib.Core.Path.{◌≡◌, refl, sym, ◌∙◌, ap}
+use mathlib.Core.Path.{◌≡◌, refl, sym, ◌∙◌}
 use mathlib.Core.List.{List, [], ◌∷◌, ◌++◌, append_assoc, append-nil}
 use Prim.Native.Nat.{ℕ, ◌+◌, ◌*◌}
 use native.Mathlib.Omega.{arith}

@@ -12,7 +12,7 @@ use native.Mathlib.Omega.{arith}
 use lib.Dec.{T}
 use Rattle.algebra.proofs.Truth.{T_true, T_false}
 use Rattle.forms.specs.Cuttings.{Four, first, second, third, fourth, Cutting, keep, cut, leaves, Fits, greedy}
-use Rattle.forms.proofs.Cuttings.{leaves-positive, greedy-ind, greedy-least}
+use Rattle.forms.proofs.Cuttings.{leaves-positive, greedy-ind}
 use Rattle.cuttings.specs.Bytes.{cutting_bytes, trimmed, bytes_of}
 use Rattle.cuttings.specs.Reads.{quarters_from}
 

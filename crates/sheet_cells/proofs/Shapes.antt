@@ -7,14 +7,13 @@
 use mathlib.Core.Path.{◌≡◌, refl, sym, ◌∙◌, ap, subst}
 use mathlib.Core.Bool.{Bool, true, false}
 use mathlib.Core.List.{List, [], ◌∷◌}
-use Prim.Native.Nat.{ℕ, ◌≤◌}
+use Prim.Native.Nat.{◌≤◌}
 use native.Mathlib.Omega.{arith}
-use lib.Dec.{lit≤}
 use lib.IntN.{ℤ, pos}
 use lib.ListN.{length, get_or, take}
 use lib.Seq.{take_all}
 use Rattle.algebra.specs.Within.{Each}
-use Rattle.algebra.proofs.Within.{each-≤, each-as}
+use Rattle.algebra.proofs.Within.{each-as}
 use Rattle.forms.specs.Cuttings.{Four}
 use Rattle.forms.specs.Shapes.{Lawful, pass, cut_to}
 use Rattle.forms.specs.Triangles.{six}

@@ -1,0 +1,79 @@
+-- `read::cell` and `read::quarters` meet their contracts: by the byte at the place. What is left falls, or the quarters do. Assumes
+use mathlib.Core.Path.{sym, ◌∙◌}
+use native.Mathlib.Omega.{arith}
+use mathlib.Core.Logic.{inl, inr}
+use Rattle.forms.specs.Cuttings.{four_of}
+use Rattle.cuttings.proofs.Reading.{ended, kept, not-kept, other_byte, quartered, answered, one_more, one-failed}
+use Rattle.cuttings.proofs.Room.{cut_left, quarter-room, cut-room}
+use Rattle.sheet_cells.specs.Either.{shape_by, values_by, growth_by}
+use Rattle.sheet_cells.proofs.Shapes.{lawful-by}
+use Rattle.sheet_cells.proofs.read.+cell_quarters.Goals as goal
+
+pub cell-returns-then-sheet-at : goal.cell-returns-then-sheet-at
+cell-returns-then-sheet-at t c =
+    let a = c.args in
+    ended (shape_by a.triangle) a.left (values_by a.triangle a.c) a.sheet.now a.at c.if-sheet-at.true
+
+pub cell-returns-then-passes : goal.cell-returns-then-passes
+cell-returns-then-passes t c =
+    let a = c.args in
+    kept (shape_by a.triangle) a.left (values_by a.triangle a.c) a.sheet.now a.at (omega arith) c.if-byte-eq0.true (sym c.passes.ensures ∙ c.if-passes.true)
+
+pub cell-returns-then-byte-eq0 : goal.cell-returns-then-byte-eq0
+cell-returns-then-byte-eq0 t c =
+    let a = c.args in
+    not-kept (shape_by a.triangle) a.left (values_by a.triangle a.c) a.sheet.now a.at (omega arith) c.if-byte-eq0.true (sym c.passes.ensures ∙ c.if-passes.false)
+
+pub cell-returns-then-byte-ne1 : goal.cell-returns-then-byte-ne1
+cell-returns-then-byte-ne1 t c =
+    let a = c.args in
+    other_byte (shape_by a.triangle) a.left (values_by a.triangle a.c) a.sheet.now a.at (omega arith) c.if-byte-eq0.false
+    (inl (λ e. let h = c.if-byte-ne1.true in omega arith))
+
+pub cell-returns-then-left-eq0 : goal.cell-returns-then-left-eq0
+cell-returns-then-left-eq0 t c =
+    let a = c.args in
+    other_byte (shape_by a.triangle) a.left (values_by a.triangle a.c) a.sheet.now a.at (omega arith) c.if-byte-eq0.false
+    (inr (let h = c.if-left-eq0.true in omega arith))
+
+pub cell-quarters-requires : goal.cell-quarters-requires
+cell-quarters-requires t c =
+    let a = c.args in let h = c.if-left-eq0.false in
+    (omega (arith, c.decreases), (omega arith, cut_left (growth_by a.triangle) a.left (values_by a.triangle a.c) (λ e. omega arith) c.requires, omega arith))
+
+pub cell-returns : goal.cell-returns
+cell-returns t c =
+    let a = c.args in
+    let f = c.if-byte-eq0.false in let g = c.if-byte-ne1.false in let h = c.if-left-eq0.false in
+    quartered (shape_by a.triangle) a.left (values_by a.triangle a.c) a.sheet.now a.at c.quarters.result (omega arith)
+    (omega arith) (λ e. omega arith) c.quarters.ensures
+
+pub quarters-quarter-requires : goal.quarters-quarter-requires
+quarters-quarter-requires t c =
+    let a = c.args in
+    (omega (arith, c.requires.0), cut-room (growth_by a.triangle) a.left (values_by a.triangle a.c) c.requires.1)
+
+pub quarters-cell-first-requires : goal.quarters-cell-first-requires
+quarters-cell-first-requires t c =
+    let a = c.args in (
+      omega (arith, c.decreases, c.requires.0),
+      quarter-room (shape_by a.triangle) (lawful-by a.triangle) (four_of a.i) a.left (values_by a.triangle a.c) c.requires.1 c.quarter.ensures,
+    )
+
+pub quarters-quarters-requires : goal.quarters-quarters-requires
+quarters-quarters-requires t c =
+    let a = c.args in
+    let h = answered (shape_by a.triangle) a.left (values_by a.triangle a.c) a.sheet.now a.at a.i (values_by a.triangle c.quarter.result) c.in-Next.is c.cell-first.ensures in
+    (omega (arith, c.decreases, c.requires.0), (omega (arith, c.requires.0), c.requires.1, h.0))
+
+pub quarters-returns-in-Next : goal.quarters-returns-in-Next
+quarters-returns-in-Next t c =
+    let a = c.args in
+    one_more (shape_by a.triangle) a.left (values_by a.triangle a.c) a.sheet.now a.at a.i c.in-Next.next c.quarters.result (omega (arith, c.requires.0)) c.quarter.ensures
+    (answered (shape_by a.triangle) a.left (values_by a.triangle a.c) a.sheet.now a.at a.i (values_by a.triangle c.quarter.result) c.in-Next.is c.cell-first.ensures) c.quarters.ensures
+
+pub quarters-returns-in-Failed : goal.quarters-returns-in-Failed
+quarters-returns-in-Failed t c =
+    let a = c.args in
+    one-failed (shape_by a.triangle) a.left (values_by a.triangle a.c) a.sheet.now a.at a.i (omega (arith, c.requires.0)) c.quarter.ensures
+    (answered (shape_by a.triangle) a.left (values_by a.triangle a.c) a.sheet.now a.at a.i (values_by a.triangle c.quarter.result) c.in-Failed.is c.cell-first.ensures)

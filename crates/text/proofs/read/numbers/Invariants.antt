@@ -1,0 +1,11 @@
+-- `text::proofs::read::numbers` is safe and ends: the count rises to the room.
+use mathlib.Core.Path.{◌≡◌}
+use Prim.Native.Nat.{◌-◌, ◌≤◌}
+use lib.ListN.{length}
+use Rattle.text.proofs.read.numbers.Given as goal
+
+abbrev pub invariant-loop-at : goal.invariant-loop-at
+invariant-loop-at l = (l.k ≤ length l.initial.out) × (length l.out ≡ length l.initial.out)
+
+abbrev pub decreases-loop-at : goal.decreases-loop-at
+decreases-loop-at l = length l.initial.out - l.k
