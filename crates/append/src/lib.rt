@@ -1,5 +1,6 @@
 // The calls `start_block` and `append_record`.
 #![tactic(auto)]
+
 ghost use Rattle.std.specs.Prelude.{◌≡◌, ◌+◌, ◌*◌, ◌≤◌, length};
 ghost use Rattle.element.specs.Refusals.{Coded};
 ghost use Rattle.endian.specs.Numbers.{over};

@@ -1,5 +1,6 @@
 // The call `append`. The buffer stands in the line as hex.
 #![tactic(auto)]
+
 use append::append_record;
 use pieces::{buffer, naturals, unknown};
 use text::read::{hex, next, number, numbers, up_to, word_end};

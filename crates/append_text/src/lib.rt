@@ -1,5 +1,6 @@
 // The call `append_text`.
 #![tactic(auto)]
+
 mod fill;
 mod pass;
 mod values;

@@ -1,5 +1,6 @@
 // Records that are tried one after another behind a good block, and written at once.
 #![tactic(auto)]
+
 mod bytes;
 mod narrow;
 

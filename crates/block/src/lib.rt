@@ -1,5 +1,6 @@
 // An element block: the calls `check_block` and `fetch_record`, and a record of a block that was checked.
 #![tactic(auto)]
+
 ghost use Rattle.std.specs.Prelude.{◌≡◌, ◌+◌, ◌*◌, ◌≤◌};
 ghost use Rattle.element.specs.Refusals.{Coded, Accepted};
 ghost use Rattle.record.specs.Record.{blank};

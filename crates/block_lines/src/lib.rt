@@ -1,5 +1,6 @@
 // The calls `check`, `fetch`, `walk` and `start`. A block or a buffer stands in the line as hex.
 #![tactic(auto)]
+
 use append::start_block;
 use block::{Fetched, check_block, fetch_record};
 use pieces::{block_and_record, buffer, coordinates, last_word, naturals, unknown};

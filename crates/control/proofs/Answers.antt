@@ -6,7 +6,7 @@
 -- Assumes nothing.
 use mathlib.Core.Path.{◌≡◌, refl, sym, ◌∙◌, ap, subst}
 use mathlib.Core.List.{List, ◌++◌}
-use mathlib.Core.Logic.{◌⊎◌, inl, inr}
+use mathlib.Core.Logic.{inl, inr}
 use Prim.Native.Nat.{ℕ, ◌^◌, ◌≤◌, ◌<◌}
 use lib.Dec.{eqb, lit≤, lit<}
 use lib.IntN.{ℤ}
@@ -16,7 +16,7 @@ use Rattle.algebra.proofs.Within.{each-≤, each-as}
 use Rattle.element.specs.Kinds.{Kind, six, eight, nine, ten, kind_of, value_count, size_limit}
 use Rattle.element.specs.Cubic.{values10}
 use Rattle.element.specs.Control.{values6, control_values}
-use Rattle.element.specs.Refusals.{Codes, no_more, code, Refused, Accepted, Coded, bounds_codes, control_codes}
+use Rattle.element.specs.Refusals.{Refused, Accepted, Coded, bounds_codes, control_codes}
 use Rattle.element.proofs.Numbers.{kind-six, kind-ten, kind-quad}
 use Rattle.element.proofs.Values.{values_length}
 use Rattle.element.proofs.Sizes.{values-size}

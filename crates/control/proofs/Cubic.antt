@@ -2,10 +2,10 @@
 --   ten-filled       : accepted: fifteen values by relation 24 at the buffer's start, and nothing else changed; refused: nothing at all
 --   ten-bracketed    : 192·J of the cubic map lies between the two bounds at every rational point of the closed element
 -- Assumes nothing.
-use mathlib.Core.Path.{◌≡◌, ap}
+use mathlib.Core.Path.{◌≡◌}
 use mathlib.Core.List.{List, ◌++◌}
 use mathlib.Core.Logic.{◌⊎◌, inl, inr}
-use Prim.Native.Nat.{ℕ, ◌*◌}
+use Prim.Native.Nat.{◌*◌}
 use lib.IntN.{ℤ, pos, ◌*ℤ◌}
 use lib.ListN.{length, drop}
 use lib.Signed.{◌≤ℤ◌}

@@ -1,6 +1,7 @@
 // The first bad grid point that a judge knows of: "the least such level, the bad point with smallest j, then smallest i, the
 // scaled J there".
 #![tactic(auto)]
+
 ghost use Rattle.std.specs.Prelude.{◌≡◌};
 ghost use Rattle.corners.specs.First as first;
 
@@ -29,6 +30,7 @@ pub fn none_found() -> First
 }
 
 // What a cell's corner with this value says.
+#[tactic(auto, unfolding(crate::specs::First::corner))]
 pub fn corner(value: i64, level: u32, i: u32, j: u32) -> First
     ensures { result ≡ first.corner value level i j }
 {

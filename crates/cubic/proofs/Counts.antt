@@ -18,7 +18,6 @@ use lib.ListN.{get_or}
 use Rattle.algebra.specs.Within.{Is}
 use Rattle.algebra.proofs.Truth.{T_and}
 use Rattle.forms.specs.Binomials.{choose, multinomial}
-use Rattle.forms.specs.Cells.{every}
 use Rattle.forms.specs.Triangles.{degrees10}
 use Rattle.forms.proofs.Cells.{every-at, up_to-at}
 

@@ -2,6 +2,7 @@
 // 2!/(i1!j1!k1!)·2!/(i2!j2!k2!)·det(R(i1,j1+1,k1) - R(i1+1,j1,k1), R(i2,j2,k2+1) - R(i2+1,j2,k2)). Control points stand by rising k,
 // then rising j.
 #![tactic(auto)]
+
 ghost use Rattle.std.specs.Prelude.{◌≡◌, [], ◌+◌, ◌/◌, ◌≤◌, ◌<◌, pos, get_or};
 ghost use Rattle.algebra.specs.Within.{Within};
 ghost use Rattle.forms.specs.Binomials as binomials;

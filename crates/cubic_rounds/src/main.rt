@@ -1,7 +1,10 @@
 // Judges each ten-node triangle on standard input 64 times, and prints the most cells of any: the judge without text, for ./bench. The
 // input has up to 800 records, as the crate ten_records reads them.
 #![tactic(auto)]
+
 use endian::get_u32;
+use std::io;
+use streams::input::fill;
 use ten_records::{coords, count};
 
 // The cells of record k; 0 where there is none.
@@ -43,9 +46,9 @@ fn rounds(bytes: &[u8]) -> u32 {
     most
 }
 
-fn main() {
+fn main(rt: HostRuntime) -> io::Result<()> {
     let mut bytes = [0u8; 67200];
-    let n = io::read_full(0, &mut bytes);
-    io::print_decimal(1, rounds(&bytes[..n]) as u64);
-    io::write_all(1, b"\n");
+    let read = fill(&mut rt.stdin(), &mut bytes, 0);
+    let most = rounds(&bytes[..read.have]);
+    println!(rt; "{most}")
 }

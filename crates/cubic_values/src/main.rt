@@ -1,8 +1,11 @@
 // Forms the control values of each ten-node triangle on standard input 64 times, and prints how often none of the fifteen was negative: the
 // values without the walk, for ./bench. The input has up to 800 records, as the crate ten_records reads them.
 #![tactic(auto)]
+
 use cells::none_negative;
 use control::control_values;
+use std::io;
+use streams::input::fill;
 use ten_records::{coords, count};
 
 // 1 where no value of record k is negative, else 0.
@@ -44,9 +47,9 @@ fn rounds(bytes: &[u8]) -> u32 {
     sum
 }
 
-fn main() {
+fn main(rt: HostRuntime) -> io::Result<()> {
     let mut bytes = [0u8; 67200];
-    let n = io::read_full(0, &mut bytes);
-    io::print_decimal(1, rounds(&bytes[..n]) as u64);
-    io::write_all(1, b"\n");
+    let read = fill(&mut rt.stdin(), &mut bytes, 0);
+    let most = rounds(&bytes[..read.have]);
+    println!(rt; "{most}")
 }

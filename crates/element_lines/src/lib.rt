@@ -1,5 +1,6 @@
 // The calls on one element: `control`, `bounds`, `verdict`, `floor`.
 #![tactic(auto)]
+
 use control::Bounded;
 use floor::{Profile, verdict_by};
 use pieces::{element, integers, naturals, room_and_kind, unknown};

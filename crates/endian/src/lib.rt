@@ -1,5 +1,6 @@
 // Numbers in a slice of bytes, little-endian, signed ones in two's complement.
 #![tactic(auto)]
+
 ghost use Rattle.std.specs.Prelude.{◌≡◌, ◌+◌, ◌<◌, ◌≤◌, ◌^◌, length};
 ghost use Rattle.endian.specs.Numbers.{bytes, number, pattern, signed, signed_bytes, signed_number, part, over};
 

@@ -1,6 +1,7 @@
 // The faults of an element that the calls test: its kind (1), its level limit (2), the length of its coordinate list (3), its limit (4),
 // corners at one place (21).
 #![tactic(auto)]
+
 ghost use Rattle.std.specs.Prelude.{◌≡◌, true, false, [], ◌∷◌, ◌+◌, ◌*◌, ◌<◌, length};
 ghost use Rattle.element.specs.Kinds.{NotStored, NotKind, kind_of, greatest_level};
 ghost use Rattle.element.specs.Corners.{SamePlace, SameTwo};

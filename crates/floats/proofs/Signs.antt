@@ -10,7 +10,7 @@ use mathlib.Core.Bool.{Bool, true, false}
 use Prim.Native.Nat.{ℕ, zero, suc, ◌*◌, ◌<◌}
 use native.Mathlib.Nat.{zero-mul, mul-pos, zero-lt-suc, eq_of_mul-eq-mul_right}
 use native.Mathlib.Omega.{arith}
-use lib.IntN.{ℤ, pos, neg_ℤ, nat_abs, ◌*ℤ◌, pos-ne-negsuc}
+use lib.IntN.{pos, neg_ℤ, nat_abs, ◌*ℤ◌, pos-ne-negsuc}
 use Rattle.algebra.proofs.Size.{size-neg}
 use Rattle.floats.specs.Values.{signed}
 

@@ -14,7 +14,7 @@ use native.Mathlib.Nat as N
 use native.Mathlib.Nat.{mul-one, one-mul, zero-mul, mul_assoc, mul_left_comm, mul_right_comm, mul-pos, zero-lt-suc, pow-suc, pow-succ', eq_of_mul-eq-mul_right}
 use native.Mathlib.Omega.{arith}
 use borrow.Author.Tests.{eq-eqb, eqb-true}
-use lib.Dec.{T, eqb, ltb, leb, eqb→eq}
+use lib.Dec.{eqb, ltb, leb, eqb→eq}
 use lib.Pow.{pow-add}
 use lib.IntN.{ℤ, pos, negsuc, ◌*ℤ◌}
 use lib.Ieee.{Float, nan, inf, fin, up, down, eq, fits}
@@ -28,9 +28,15 @@ use Rattle.floats.proofs.Signs.{signed_parts, signed-zero, signed-times, signed-
 
 -- ---- v / n
 pub over-only : (n : ℕ) (x : Float) (v w : ℤ) → IsOver n x v → IsOver n x w → v ≡ w
+over-only n nan v w p q = elim p [ ]
+over-only n (inf _) v w p q = elim p [ ]
 over-only n (fin s m e) v w p q = *ℤ-cancel v w (pos (down e)) (0<pos (down_pos e)) (sym p ∙ q)
 
 pub over-same : (n : ℕ) (x y : Float) (v : ℤ) → 0 < n → IsOver n x v → IsOver n y v → SameNumber x y
+over-same n nan y v h p q = elim p [ ]
+over-same n (inf _) y v h p q = elim p [ ]
+over-same n (fin s m e) nan v h p q = elim q [ ]
+over-same n (fin s m e) (inf _) v h p q = elim q [ ]
 over-same n (fin s m e) (fin t k d) v h p q =
     signed-cancel s t (m * up e * down d) (k * up d * down e) n h
     (ap (signed s) (mul_right_comm (m * up e) (down d) n)
@@ -42,6 +48,10 @@ over-same n (fin s m e) (fin t k d) v h p q =
     ∙ ap (signed t) (mul_right_comm (k * up d) n (down e)))
 
 pub same_over : (n : ℕ) (x y : Float) (v : ℤ) → SameNumber x y → IsOver n x v → IsOver n y v
+same_over n nan y v h p = elim h [ ]
+same_over n (inf _) y v h p = elim h [ ]
+same_over n (fin s m e) nan v h p = elim h [ ]
+same_over n (fin s m e) (inf _) v h p = elim h [ ]
 same_over n (fin s m e) (fin t k d) v h p =
     *ℤ-cancel (signed t (k * up d * n)) (v *ℤ pos (down d)) (pos (down e)) (0<pos (down_pos e))
     (signed-times t (k * up d * n) (down e)
@@ -57,6 +67,8 @@ same_over n (fin s m e) (fin t k d) v h p =
 -- the library says of a float that its sign is s and its size a / c
 module _ (n : ℕ) (s : Bool) (a c : ℕ) (v : ℤ) where
   pub value-over : (x : Float) → HasValue x s a c → 0 < c → signed s (a * n) ≡ v *ℤ pos c → IsOver n x v
+  value-over nan h p q = elim h [ ]
+  value-over (inf _) h p q = elim h [ ]
   value-over (fin t m e) h p q =
       *ℤ-cancel (signed t (m * up e * n)) (v *ℤ pos (down e)) (pos c) (0<pos p)
       (signed-times t (m * up e * n) c
@@ -70,6 +82,8 @@ module _ (n : ℕ) (s : Bool) (a c : ℕ) (v : ℤ) where
       cross k d e = mul_right_comm k n c ∙ ap (λ (i : ℕ). i * n) e ∙ mul_right_comm a d n
 
   pub over-value : (x : Float) → HasValue x s a c → IsOver n x v → signed s (a * n) ≡ v *ℤ pos c
+  over-value nan h q = elim h [ ]
+  over-value (inf _) h q = elim h [ ]
   over-value (fin t m e) h q =
       *ℤ-cancel (signed s (a * n)) (v *ℤ pos c) (pos (down e)) (0<pos (down_pos e))
       (signed-times s (a * n) (down e)
@@ -93,12 +107,18 @@ signs false true a (inr h) = eq-eqb a 0 h
 
 pub same-eq : (x y : Float) → SameNumber x y → eq x y ≡ true
 unfolding eq
+same-eq nan y h = elim h [ ]
+same-eq (inf _) y h = elim h [ ]
+same-eq (fin s m e) nan h = elim h [ ]
+same-eq (fin s m e) (inf _) h = elim h [ ]
 same-eq (fin s m e) (fin t n d) h =
     let (p, q) = signed_parts s t (m * up e * down d) (n * up d * down e) h in
     ap₂ ◌&&◌ (eq-eqb (m * up e * down d) (n * up d * down e) p) (signs s t (m * up e * down d) q)
 
 pub eq-same : (k : ℕ) (v : ℤ) (x y : Float) → IsOver k x v → eq x y ≡ true → SameNumber x y
 unfolding eq
+eq-same k v nan y p h = elim p [ ]
+eq-same k v (inf _) y p h = elim p [ ]
 eq-same k v (fin s m e) nan p h = absurd (false≢true h)
 eq-same k v (fin s m e) (inf t) p h = absurd (false≢true h)
 eq-same k v (fin s m e) (fin t n d) w h =
@@ -164,6 +184,12 @@ none : (e d : ℤ) → 0 * up e * down d ≡ 0
 none e d = ap (λ (n : ℕ). n * down d) (zero-mul (up e)) ∙ zero-mul (down d)
 
 pub same-unique : (x y : Float) → F64 x → F64 y → SameNumber x y → (x ≡ y) ⊎ ((s : Bool) × (t : Bool) × (x ≡ zero_of s) × (y ≡ zero_of t))
+same-unique nan y f g h = elim h [ ]
+same-unique (inf _) y f g h = elim h [ ]
+same-unique (fin s zero e) nan f g h = elim h [ ]
+same-unique (fin s zero e) (inf _) f g h = elim h [ ]
+same-unique (fin s (suc m) e) nan f g h = elim h [ ]
+same-unique (fin s (suc m) e) (inf _) f g h = elim h [ ]
 same-unique (fin s zero e) (fin t zero d) f g h = inr (s, t, zero-once s e f, zero-once t d g)
 same-unique (fin s zero e) (fin t (suc n) d) f g h =
     let (p, q) = signed_parts s t (0 * up e * down d) (suc n * up d * down e) h in

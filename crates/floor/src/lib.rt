@@ -1,6 +1,7 @@
 // The call `floor_verdict` (02, Ask 3): a point of a triangle is bad where 100·J ≤ typeof.p.S, S the Jacobian of the straight-sided triangle. And
 // the profiles that elements are judged by.
 #![tactic(auto)]
+
 ghost use Rattle.std.specs.Prelude.{◌≡◌, ◌≤◌, pos, ◌*ℤ◌};
 ghost use Rattle.element.specs.Kinds.{six};
 ghost use Rattle.element.specs.Origin.{Inside};

@@ -1,5 +1,6 @@
 // The lines of the list, written into a lent buffer.
 #![tactic(auto)]
+
 ghost use Rattle.std.specs.Prelude.{[], ◌∷◌, ◌≤◌, length};
 ghost use Rattle.text.specs.Writing.{Wrote, decimal};
 ghost use Rattle.lines.specs.Words.{after, first_line, ending, refused_line, refused_record};

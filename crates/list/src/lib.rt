@@ -1,5 +1,6 @@
 // The list of a block's verdicts as text: the calls `write_list`, and `write_floor_list` under a floor on distortion.
 #![tactic(auto)]
+
 ghost use Rattle.std.specs.Prelude.{◌≡◌, ◌*◌, length, take};
 ghost use Rattle.floor.specs.Calls.{ToldBy};
 ghost use Rattle.list.specs.Calls.{WritesBy, WritesList, WritesFloorList};

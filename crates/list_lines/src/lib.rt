@@ -1,5 +1,6 @@
 // The call `list`. The block stands in the line as hex.
 #![tactic(auto)]
+
 use list::write_list;
 use pieces::{last_word, unknown};
 use text::read::byte;

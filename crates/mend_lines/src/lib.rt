@@ -1,5 +1,6 @@
 // The calls `straighten` and `mend`. A block stands in the line as hex.
 #![tactic(auto)]
+
 use mending::straighten_record;
 use pieces::{block_and_record, buffer, coordinates, element, naturals, unknown};
 use straighten::{Moved, straighten};

@@ -1,5 +1,6 @@
 // The call `straighten_record` (02, Ask 12): record k of a block with the fewest of its middle nodes replaced that make it valid.
 #![tactic(auto)]
+
 ghost use Rattle.std.specs.Prelude.{◌≡◌, cond, ◌+◌, ◌≤◌, ◌<◌, length};
 ghost use Rattle.block.specs.Block.{place};
 ghost use Rattle.block.specs.Changes.{with_sign};

@@ -1,5 +1,6 @@
 // The call `append_mesh`.
 #![tactic(auto)]
+
 mod fill;
 mod pass;
 mod texts;

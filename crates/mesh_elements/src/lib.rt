@@ -1,5 +1,6 @@
 // The elements of a text that are ours: their coordinates in our order.
 #![tactic(auto)]
+
 ghost use Rattle.std.specs.Prelude.{◌≡◌, map, ◌*◌, ◌<◌, get_or, drop, take};
 ghost use Rattle.mesh_text.specs.Rows.{line};
 ghost use Rattle.mesh_text.specs.Tests.{clipped};

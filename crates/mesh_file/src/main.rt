@@ -3,23 +3,26 @@
 // was judged: `limit` where the argument is no number from 0 to 255, `failed` where a read fails, `long` where the text has more than
 // 67,108,864 bytes.
 #![tactic(auto)]
+
 mod answer;
 mod input;
 
+use std::env::Env;
+use std::io;
+use std::io::Print;
 use text::read::{number, up_to};
 
 // The level limit; 256 where none is given.
-fn level_limit() -> u64 {
+fn level_limit<E: Env>(env: &E) -> u64 {
     let mut word = [0u8; 16];
-    let n = os::arg(1, &mut word);
+    let n = env.arg(1, &mut word).unwrap_or(0);
     up_to(number(&word[..n], 0), 255)
 }
 
-fn main() {
-    let limit = level_limit();
+fn main(rt: HostRuntime) -> io::Result<()> {
+    let limit = level_limit(&rt);
     if 255 < limit {
-        io::write_all(1, b"limit\n");
-        return;
+        return rt.write_all(b"limit\n");
     }
-    input::read_in(b"", 2, limit as u8);
+    input::read_in(&mut rt.stdin(), &rt, b"", 2, limit as u8)
 }

@@ -1,5 +1,6 @@
 // The form of a Gmsh text, row by row.
 #![tactic(auto)]
+
 pub mod rows;
 pub mod values;
 pub mod walk;

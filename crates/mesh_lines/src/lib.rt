@@ -1,5 +1,6 @@
 // The call `mesh`. The buffer and the text stand in the line as hex.
 #![tactic(auto)]
+
 use mesh::append_mesh;
 use pieces::{buffer, buffer_and_text, naturals, unknown};
 use text::read::{number, up_to};

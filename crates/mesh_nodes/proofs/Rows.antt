@@ -92,14 +92,18 @@ mem-number : {r : Row} {rs : List Row} → Memᴰ r rs → Memᴰ (id_of r) (map
 mem-number (mathlib.Core.List.Memᴰ.head e) = mathlib.Core.List.Memᴰ.head (ap id_of e)
 mem-number (mathlib.Core.List.Memᴰ.tail m) = mathlib.Core.List.Memᴰ.tail (mem-number m)
 
-pub row-mem : (rs : List Row) (r : Row) (n : ℕ) → ¬ Repeats (map id_of rs) → Memᴰ r rs → id_of r ≡ n → r ≡ row_of n rs
+-- row-mem, r before what the recursion changes
+row-among : (r : Row) (rs : List Row) (n : ℕ) → ¬ Repeats (map id_of rs) → Memᴰ r rs → id_of r ≡ n → r ≡ row_of n rs
 unfolding row_of
-row-mem rs r n o (mathlib.Core.List.Memᴰ.head {x = q} {xs = l} e) i =
+row-among r rs n o (mathlib.Core.List.Memᴰ.head {x = q} {xs = l} e) i =
     e ∙ sym (ap (λ b. cond b q (row_of n l)) (eq-eqb (id_of q) n (ap id_of (sym e) ∙ i)))
-row-mem rs r n o (mathlib.Core.List.Memᴰ.tail {x = q} {xs = l} m) i =
+row-among r rs n o (mathlib.Core.List.Memᴰ.tail {x = q} {xs = l} m) i =
     by-test (eqb (id_of q) n) (r ≡ row_of n (q ∷ l))
     (λ b. absurd (o (here tt (subst (λ k. Memᴰ k (map id_of l)) (i ∙ sym (eqb-true (id_of q) n b)) (mem-number m)))))
-    (λ b. row-mem l r n (λ p. o (later p)) m i ∙ sym (ap (λ x. cond x q (row_of n l)) b))
+    (λ b. row-among r l n (λ p. o (later p)) m i ∙ sym (ap (λ x. cond x q (row_of n l)) b))
+
+pub row-mem : (rs : List Row) (r : Row) (n : ℕ) → ¬ Repeats (map id_of rs) → Memᴰ r rs → id_of r ≡ n → r ≡ row_of n rs
+row-mem rs r n o m i = row-among r rs n o m i
 
 -- ---- places in a table
 pub all_set : {P : ℕ → Type 0} {l : List ℕ} (k v : ℕ) → All P l → P v → All P (set l k v)

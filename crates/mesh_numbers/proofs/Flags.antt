@@ -187,12 +187,16 @@ unfolding marks_all
 marked-all-keeps base fs [] n e = e
 marked-all-keeps base fs (m ∷ l) n e = marked-all-keeps base (marks base fs m) l n (marked-keeps base fs m n e)
 
-pub marked-all-of : (base : ℕ) (fs : List ℕ) {l : List ℕ} {n : ℕ} → Memᴰ n l → win_b base (width fs) n ≡ true → marked_b base (marks_all base fs l) n ≡ true
+-- the same, n before what the recursion changes
+marked-among : (base n : ℕ) (fs : List ℕ) {l : List ℕ} → Memᴰ n l → win_b base (width fs) n ≡ true → marked_b base (marks_all base fs l) n ≡ true
 unfolding marks_all
-marked-all-of base fs {n = n} (Memᴰ.head {x = m} {xs = l} i) w =
+marked-among base n fs (Memᴰ.head {x = m} {xs = l} i) w =
     marked-all-keeps base (marks base fs m) l n
     (subst (λ k. marked_b base (marks base fs m) k ≡ true) (sym i) (marked-self base fs m (subst (λ k. win_b base (width fs) k ≡ true) i w)))
-marked-all-of base fs {n = n} (Memᴰ.tail {x = m} i) w = marked-all-of base (marks base fs m) i (win-same base fs m n ∙ w)
+marked-among base n fs (Memᴰ.tail {x = m} i) w = marked-among base n (marks base fs m) i (win-same base fs m n ∙ w)
+
+pub marked-all-of : (base : ℕ) (fs : List ℕ) {l : List ℕ} {n : ℕ} → Memᴰ n l → win_b base (width fs) n ≡ true → marked_b base (marks_all base fs l) n ≡ true
+marked-all-of base fs {n = n} i w = marked-among base n fs i w
 
 -- ---- look-ups
 lack-true : (base : ℕ) (fs : List ℕ) (n : ℕ) → lack_b base fs n ≡ true → (win_b base (width fs) n ≡ true) × (marked_b base fs n ≡ false)
@@ -214,11 +218,15 @@ lacks-true base fs (n ∷ l) e = go (lack_b base fs n) refl (lacks-true base fs 
     go true f ih = (n, (Memᴰ.head refl, lack-true base fs n f))
     go false f ih = let p = ih (sym (ap (λ b. b || lacks_b base fs l) f) ∙ e) in (p.0, (Memᴰ.tail p.1.0, p.1.1))
 
-pub lacks-false : (base : ℕ) (fs : List ℕ) {l : List ℕ} {n : ℕ} → lacks_b base fs l ≡ false → Memᴰ n l → win_b base (width fs) n ≡ true → marked_b base fs n ≡ true
+-- the same, n before what the recursion changes
+lacks-none-of : (base : ℕ) (fs : List ℕ) (n : ℕ) {l : List ℕ} → lacks_b base fs l ≡ false → Memᴰ n l → win_b base (width fs) n ≡ true → marked_b base fs n ≡ true
 unfolding lacks_b
-lacks-false base fs {n = n} e (Memᴰ.head {x = m} {xs = l} i) w =
+lacks-none-of base fs n e (Memᴰ.head {x = m} {xs = l} i) w =
     lack-false base fs n (ap (lack_b base fs) i ∙ (or-none (lack_b base fs m) (lacks_b base fs l) e).0) w
-lacks-false base fs e (Memᴰ.tail {x = m} {xs = l} i) w = lacks-false base fs (or-none (lack_b base fs m) (lacks_b base fs l) e).1 i w
+lacks-none-of base fs n e (Memᴰ.tail {x = m} {xs = l} i) w = lacks-none-of base fs n (or-none (lack_b base fs m) (lacks_b base fs l) e).1 i w
+
+pub lacks-false : (base : ℕ) (fs : List ℕ) {l : List ℕ} {n : ℕ} → lacks_b base fs l ≡ false → Memᴰ n l → win_b base (width fs) n ≡ true → marked_b base fs n ≡ true
+lacks-false base fs {n = n} e i w = lacks-none-of base fs n e i w
 
 -- ---- flags that are all clear
 pub clear : (base w n : ℕ) → marked_b base (zeros w) n ≡ false

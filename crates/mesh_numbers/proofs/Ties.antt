@@ -116,20 +116,28 @@ all_true (e ∷ es) n i =
     (λ j. wants-later e es n (all_true es n j))
     (Memᴰ.append_cases e.nodes (subst (Memᴰ n) (ap (λ b. cond b (wanted_of_all es) (e.nodes ++ wanted_of_all es)) z) i)))
 
-all_of : {es : List Element} {e : Element} {n : ℕ}
+-- the same, e before what the recursion changes
+all-among : {e : Element} {es : List Element} {n : ℕ}
     → Memᴰ e es
     → ¬ (size_of_type e.type ≡ 0)
     → Memᴰ n e.nodes
     → Memᴰ n (wanted_of_all es)
 unfolding wanted_of_all
-all_of {n = n} (Memᴰ.head {x = d} {xs = es} f) z i =
+all-among {n = n} (Memᴰ.head {x = d} {xs = es} f) z i =
     subst (Memᴰ n) (sym (ap (λ b. cond b (wanted_of_all es) (d.nodes ++ wanted_of_all es)) (ne_eqb (size_of_type d.type) 0 (λ y. z (ap (λ x. size_of_type x.type) f ∙ y)))))
     (Memᴰ.append_left (wanted_of_all es) (subst (λ x. Memᴰ n x.nodes) f i))
-all_of {n = n} (Memᴰ.tail {x = d} {xs = es} j) z i =
-    let ih = all_of j z i in
+all-among {n = n} (Memᴰ.tail {x = d} {xs = es} j) z i =
+    let ih = all-among j z i in
     by-test (eqb (size_of_type d.type) 0) (Memᴰ n (cond (eqb (size_of_type d.type) 0) (wanted_of_all es) (d.nodes ++ wanted_of_all es)))
     (λ y. subst (Memᴰ n) (sym (ap (λ b. cond b (wanted_of_all es) (d.nodes ++ wanted_of_all es)) y)) ih)
     (λ y. subst (Memᴰ n) (sym (ap (λ b. cond b (wanted_of_all es) (d.nodes ++ wanted_of_all es)) y)) (Memᴰ.append_right d.nodes ih))
+
+all_of : {es : List Element} {e : Element} {n : ℕ}
+    → Memᴰ e es
+    → ¬ (size_of_type e.type ≡ 0)
+    → Memᴰ n e.nodes
+    → Memᴰ n (wanted_of_all es)
+all_of i z j = all-among i z j
 
 pub unlisted-is : (t : List ℕ) (r : Bool) {ns : List Node} {es : List Element}
     → Form t ns es

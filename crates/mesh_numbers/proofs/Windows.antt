@@ -51,12 +51,16 @@ above-ge lim a (n ∷ l) =
     (λ e. let k : cond (ltb n lim) a (min a n) ≡ a = ap (λ b. cond b a (min a n)) e in omega arith)
     (λ e. let k : cond (ltb n lim) a (min a n) ≡ min a n = ap (λ b. cond b a (min a n)) e in let h = ltb-false n lim e in omega arith)
 
-pub above-least : (lim a : ℕ) {n : ℕ} {l : List ℕ} → Memᴰ n l → lim ≤ n → above_b lim a l ≤ n
+-- the same, n before what the recursion changes
+above-among : (lim n a : ℕ) {l : List ℕ} → Memᴰ n l → lim ≤ n → above_b lim a l ≤ n
 unfolding above_b
-above-least lim a {n} (Memᴰ.head {x = x} {xs = l} e) h =
+above-among lim n a (Memᴰ.head {x = x} {xs = l} e) h =
     let ih = above-le lim (cond (ltb x lim) a (min a x)) l in
     let k : cond (ltb x lim) a (min a x) ≡ min a x = ap (λ b. cond b a (min a x)) (le-ltb x lim (omega arith)) in omega arith
-above-least lim a (Memᴰ.tail {x = x} m) h = above-least lim (cond (ltb x lim) a (min a x)) m h
+above-among lim n a (Memᴰ.tail {x = x} m) h = above-among lim n (cond (ltb x lim) a (min a x)) m h
+
+pub above-least : (lim a : ℕ) {n : ℕ} {l : List ℕ} → Memᴰ n l → lim ≤ n → above_b lim a l ≤ n
+above-least lim a {n} i h = above-among lim n a i h
 
 -- a number below the next window is below this one or in it
 part : (base w : ℕ) {l : List ℕ} {n : ℕ} → Memᴰ n l → n < above_b (base + w) 4294967296 l → (n < base) ⊎ (win_b base w n ≡ true)

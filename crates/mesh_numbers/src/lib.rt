@@ -1,5 +1,6 @@
 // The node numbers of a text: whether one stands twice, and whether one that an element wants is not listed.
 #![tactic(auto)]
+
 pub mod flag;
 pub mod look;
 pub mod mark;
@@ -20,6 +21,7 @@ pub struct Pass {
 }
 
 // Whether a number stands twice in the window from base on: 2^20 bytes are flags for 2^23 numbers.
+#[tactic(none)]
 fn twice_from(t: &[u8], base: u64) -> Pass
     requires { base ≤ 4294967296 }
     ensures { Doubles base (zeros 1048576) (numbers t.now) result }
@@ -54,6 +56,7 @@ fn marked_look(t: &[u8], flags: &mut [u8], base: u64) -> Pass
 }
 
 // The same in the window from base on.
+#[tactic(none)]
 fn unlisted_from(t: &[u8], base: u64) -> Pass
     requires { base ≤ 4294967296 }
     ensures { Lacks base (zeros 1048576) (numbers t.now) (wanted t.now) result }

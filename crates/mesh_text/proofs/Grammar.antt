@@ -11,7 +11,7 @@
 use mathlib.Core.Path.{◌≡◌, refl, sym, ap, ◌∙◌, subst}
 use mathlib.Core.Bool.{Bool, true, false, ◌&&◌, ◌||◌, cond, true≢false, or-false}
 use mathlib.Core.List.{List, [], ◌∷◌, ◌++◌, append-nil, append_assoc}
-use Prim.Native.Nat.{ℕ, zero, suc, ◌+◌, ◌<◌, min}
+use Prim.Native.Nat.{ℕ, zero, suc, ◌<◌, min}
 use native.Mathlib.Omega.{arith}
 use borrow.Author.Tests.{eqb-true, eq-eqb, ltb-false, lt-ltb}
 use lib.Dec.{eqb, ltb}
@@ -364,7 +364,7 @@ zero_of w h =
 -- ---- a whole coordinate is a decimal number
 zero-digit : (c : ℕ) → in_class Zero c ≡ true → in_class Digit c ≡ true
 unfolding in_class
-zero-digit c e = rw (eqb-true c 48 e) refl
+zero-digit c e = rw (eqb-true c _ e) refl
 
 plain-mantissa : {w : List ℕ} {n : ℕ} → Plain w n → Mantissa w
 plain-mantissa (parted {d = d} h no_point) = rw (append-nil d) (whole h)

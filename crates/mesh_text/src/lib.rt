@@ -1,5 +1,6 @@
 // Words and rows of a Gmsh text, and what its words stand for: every function takes every input.
 #![tactic(auto)]
+
 pub mod row;
 pub mod word;
 

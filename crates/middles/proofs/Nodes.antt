@@ -21,7 +21,7 @@ pub node-eq : {m n : Node} → m.x ≡ n.x → m.y ≡ n.y → m ≡ n
 node-eq p q = λ i. record { x = p i; y = q i }
 
 pub back : {z : ℤ} → mag z < 2 ^ hbits w32 → to_z w32 (of_z w32 z) ≡ z
-back h = to_z-of_z (record { sfits = h })
+back h = to_z-of_z {w = w32} (record { sfits = h })
 
 pub along : {n : Node} {v : Vec} → mag n.x < 2 ^ hbits w32 → n ≡ as_node v → to_z w32 (of_z w32 n.x) ≡ v.x
 along h e = back h ∙ ap (λ (m : Node). m.x) e

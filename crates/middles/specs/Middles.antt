@@ -13,7 +13,7 @@
 --   placed xs r a b m == the node m, or where r says so the middle of the nodes a and b
 --   as_node v        == a point as the struct of the code
 -- A set is the struct `Replaced` of src/lib.rt, a bool for each middle node. xs is the coordinate list. Definitions only.
-use Rattle.std.specs.Prelude.{Bool, cond, List, [], ◌∷◌, ℕ, ◌+◌, ◌/◌, ℤ, pos, negsuc, ◌+ℤ◌, ◌≤ℤ◌, ◌<ℤ◌}
+use Rattle.std.specs.Prelude.{Bool, cond, List, [], ◌∷◌, ℕ, ◌/◌, ℤ, pos, negsuc, ◌+ℤ◌, ◌≤ℤ◌, ◌<ℤ◌}
 use Rattle.element.specs.Plane.{Vec}
 use Rattle.element.specs.Nodes.{node, A0, A1, A2}
 use Rattle.element.specs.Nodes as nodes

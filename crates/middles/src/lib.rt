@@ -1,5 +1,6 @@
 // The middles of a triangle's edges, rounded down, and a six-node triangle with some of its middle nodes replaced by them (02, Ask 12).
 #![tactic(auto)]
+
 ghost use Rattle.std.specs.Prelude.{◌≡◌, ◌*◌, ◌+◌, ◌<◌, ◌+ℤ◌, length};
 ghost use Rattle.element.specs.Nodes.{node};
 ghost use Rattle.middles.specs.Middles.{half, halfway, replacing, placed, as_node};

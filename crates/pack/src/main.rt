@@ -2,27 +2,28 @@
 // `code record line word used appended`; behind it, where the code is 0, stands the block. The line is one word where nothing was
 // tried: `failed` where a read fails, `long` where the text has more than 1,048,576 bytes.
 #![tactic(auto)]
+
 mod answer;
 
+use std::io;
+use std::io::Print;
 use streams::input::{Filled, fill};
 
 // Answers for the text in a room, which it does not fill.
-fn settle(room: &[u8], read: Filled) {
+fn settle<P: Print>(to: &P, room: &[u8], read: Filled) -> io::Result<()> {
     let have = read.have;
     if !read.ok {
-        io::write_all(1, b"failed\n");
-        return;
+        return to.write_all(b"failed\n");
     }
     if room.len() <= have {
-        io::write_all(1, b"long\n");
-        return;
+        return to.write_all(b"long\n");
     }
-    answer::answer(&room[..have]);
+    answer::answer(to, &room[..have])
 }
 
-fn main() {
+fn main(rt: HostRuntime) -> io::Result<()> {
     // one byte more than a text may have tells a longer one
     let mut room = [0u8; 1048577];
-    let read = fill(&mut room, 0);
-    settle(&room, read);
+    let read = fill(&mut rt.stdin(), &mut room, 0);
+    settle(&rt, &room, read)
 }

@@ -1,5 +1,6 @@
 // What several answers are made of.
 #![tactic(auto)]
+
 ghost use Rattle.std.specs.Prelude.{◌≤◌, length};
 
 use points::coord;

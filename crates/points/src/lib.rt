@@ -1,5 +1,6 @@
 // Coordinates as numbers of 64 bits, from the first node, the tests against a limit, and determinants of differences.
 #![tactic(auto)]
+
 ghost use Rattle.std.specs.Prelude.{◌≡◌, true, false, [], ◌∷◌, ◌<◌, ◌-ℤ◌, ◌*ℤ◌, length};
 ghost use Rattle.algebra.specs.Within.{Within, Each};
 ghost use Rattle.element.specs.Control.{at};

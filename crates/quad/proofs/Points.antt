@@ -3,7 +3,7 @@
 --   quad-first : differences from the first node are within twice the limit
 --   edge-small, four-small, centre-small, points9-ten : of nodes within 4096
 -- Assumes nothing.
-use mathlib.Core.Path.{◌≡◌, refl}
+use mathlib.Core.Path.{refl}
 use mathlib.Core.Bool.{Bool, true, false}
 use mathlib.Core.List.{List}
 use Prim.Native.Nat.{ℕ, ◌<◌}

@@ -1,6 +1,7 @@
 // Control values of a quad: its fourfold control points, and from them the values by the sum in sum.rt.
 // Nodes and control points stand in rows: ij at i + 3j.
 #![tactic(auto)]
+
 mod sum;
 
 ghost use Rattle.std.specs.Prelude.{◌≡◌};

@@ -1,5 +1,6 @@
 // A reader that holds the bytes of a block, and walks from its first record to its last.
 #![tactic(auto)]
+
 ghost use Rattle.std.specs.Prelude.{◌≡◌};
 ghost use Rattle.block.specs.Calls.{Fetches};
 ghost use Rattle.reader.specs.Steps.{over_at, step_at, Opens};

@@ -1,5 +1,6 @@
 // One record of an element block: its 80 bytes are read and tested.
 #![tactic(auto)]
+
 ghost use Rattle.std.specs.Prelude.{◌≡◌, true, false, ◌+◌, ◌*◌, ◌≤◌, length, take, drop};
 ghost use Rattle.algebra.specs.Within.{Each};
 ghost use Rattle.element.specs.Kinds.{NotStored, kind_of};

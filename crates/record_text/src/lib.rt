@@ -1,5 +1,6 @@
 // The form of a text of records: where it is broken (code 13), and where a coordinate is not whole (code 14).
 #![tactic(auto)]
+
 pub mod find;
 pub mod lines;
 

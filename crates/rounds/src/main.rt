@@ -1,7 +1,10 @@
 // Judges each element of the block on standard input 64 times, and prints the most cells of any: the judge without text, for ./bench.
 #![tactic(auto)]
+
 use block::{check_block, record_at};
 use signs::judge;
+use std::io;
+use streams::input::fill;
 
 // The cells of record k.
 fn cells(bytes: &[u8], k: u32) -> u32 {
@@ -36,9 +39,9 @@ fn rounds(bytes: &[u8]) -> u32 {
     most
 }
 
-fn main() {
+fn main(rt: HostRuntime) -> io::Result<()> {
     let mut bytes = [0u8; 65536];
-    let n = io::read_full(0, &mut bytes);
-    io::print_decimal(1, rounds(&bytes[..n]) as u64);
-    io::write_all(1, b"\n");
+    let read = fill(&mut rt.stdin(), &mut bytes, 0);
+    let most = rounds(&bytes[..read.have]);
+    println!(rt; "{most}")
 }

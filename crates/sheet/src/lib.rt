@@ -1,5 +1,6 @@
 // The calls `write_sheet` and `check_sheet` (02, Ask 5).
 #![tactic(auto)]
+
 ghost use Rattle.std.specs.Prelude.{◌≡◌, eqb};
 ghost use Rattle.element.specs.Kinds.{NotStored, kind_of};
 ghost use Rattle.element.specs.Control.{control_values};

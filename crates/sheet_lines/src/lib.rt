@@ -1,5 +1,6 @@
 // The calls `sheet` and `checksheet`. A sheet stands in the line as hex.
 #![tactic(auto)]
+
 use pieces::{buffer, element, naturals, unknown};
 use sheet::{check_sheet, write_sheet};
 use text::read::{hex, next, number, up_to, word_end};

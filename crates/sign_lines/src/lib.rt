@@ -1,5 +1,6 @@
 // The calls `sign` and `convert`. A block stands in the line as hex.
 #![tactic(auto)]
+
 use pieces::{block_and_record, buffer, naturals, unknown};
 use signing::{Changed, sign_record, to_version_1, to_version_2};
 use text::read::{hex, next, number, up_to, word_end};

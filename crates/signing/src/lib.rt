@@ -1,5 +1,6 @@
 // The calls `sign_record`, `to_version_2` and `to_version_1`.
 #![tactic(auto)]
+
 ghost use Rattle.std.specs.Prelude.{◌≡◌, ◌≤◌, length};
 ghost use Rattle.block.specs.Calls.{ChecksBy};
 ghost use Rattle.block.specs.Changes.{with_version};

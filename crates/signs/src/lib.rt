@@ -1,5 +1,6 @@
 // The sign of a record: the limit under which the record is judged, the byte for a verdict, and whether the record keeps its sign.
 #![tactic(auto)]
+
 ghost use Rattle.std.specs.Prelude.{◌≡◌, cond, ◌*◌, min, eqb, length, take};
 ghost use Rattle.verdict.specs.Calls.{VerdictOf};
 ghost use Rattle.signs.specs.Calls.{sign_of_word, Telling};

@@ -43,6 +43,8 @@ pub inf-off : (s : Bool) → ¬ Stands (inf s)
 inf-off s = fault-off (inf s) (inl tt)
 
 pub subnormal-off : (x : Float) → Subnormal x → ¬ Stands x
+subnormal-off nan x3 _ = elim x3 [ ]
+subnormal-off (inf _) x5 _ = elim x5 [ ]
 subnormal-off (fin s m e) (p, l) (v, g) = go (nat_abs v) (th-size s m e v g.is)
   where
     -- 1024 is below 2^1022
@@ -76,9 +78,13 @@ module _ (u : Bool) (m : ℕ) (e : ℤ) (s : Bool) (t : ℕ) (v : HasValue (fin 
       (N.le_trans (N.le_of_eq (N.mul_comm (down e) (2 ^ 52))) (N.le_trans (mul-le-mul_right (down e) l) (N.le_of_eq (sym times-least)))) (lit< tt)
 
 few : (x : Float) (s : Bool) (t : ℕ) → HasValue x s t (2 ^ 1074) → 0 < t → t < 2 ^ 52 → Subnormal x
+few nan s t v p l = elim v [ ]
+few (inf _) s t v p l = elim v [ ]
 few (fin u m e) s t v p l = (some u m e s t v p, below u m e s t v l)
 
 many : (x : Float) (s : Bool) (t : ℕ) → HasValue x s t (2 ^ 1074) → 2 ^ 52 ≤ t → ¬ Subnormal x
+many nan s t v l _ = elim v [ ]
+many (inf _) s t v l _ = elim v [ ]
 many (fin u m e) s t v l (p, k) = N.not-le_of_lt k (above u m e s t v l)
 
 pub subnormal-bits : (s : Bool) (t : ℕ) → 0 < t → t < 2 ^ 52 → Subnormal (of_fields binary64 s 0 t)

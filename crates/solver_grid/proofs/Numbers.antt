@@ -6,7 +6,7 @@
 --   stands-or     : a float stands for a whole number, or has a fault
 --   fault-off, off-fault : it stands for none exactly where it has one of the three faults
 -- Assumes nothing.
-use Rattle.std.proofs.Common.{◌≡◌, ℕ, suc, ◌*◌, ◌/◌, ◌%◌, ◌<◌, Bool, true, false, ◌⊎◌, ℤ, pos, nat_abs, sym, ap, ◌∙◌, subst, inl, inr, ⊎_elim, div-add-mod', arith, lit<}
+use Rattle.std.proofs.Common.{◌≡◌, ℕ, suc, ◌*◌, ◌/◌, ◌%◌, Bool, true, false, ◌⊎◌, ℤ, pos, nat_abs, sym, ap, ◌∙◌, subst, inl, inr, ⊎_elim, div-add-mod', arith, lit<}
 use native.Mathlib.Nat.{mul-mod_left}
 use native.Mathlib.Decide.{ℕ_discrete, dec_le}
 use lib.Signed.{mag}

@@ -8,10 +8,9 @@
 --   scale-room, unscale-room     : as many places as the answer says are in the buffer
 --   scale-front, unscale-front   : the first places of the buffer, as many as the answer says, answer to the list
 -- Over the contracts alone. Assumes nothing.
-use Rattle.std.proofs.Common.{◌≡◌, ℕ, zero, suc, ◌*◌, ◌<◌, ◌≤◌, T, ◌⊎◌, List, length, take, ℤ, sym, refl, ap, ◌∙◌, subst, inl, inr, arith}
+use Rattle.std.proofs.Common.{◌≡◌, ℕ, ◌*◌, ◌<◌, ◌≤◌, T, ◌⊎◌, List, length, take, ℤ, sym, refl, ap, ◌∙◌, subst, inl, inr, arith}
 use native.Mathlib.Nat as N
 use lib.Ieee.{Float}
-use Rattle.element.specs.Control.{at}
 use Rattle.element.specs.Kinds.{NotStored}
 use Rattle.element.specs.Refusals.{Codes, code, ◌then◌, Refused, Accepted}
 use Rattle.element.proofs.Refusals.{refused-accepted, refused-some, numbered, past-then, then-accepted, one-outcome}

@@ -4,7 +4,7 @@
 -- Assumes nothing.
 use Rattle.std.proofs.Common.{◌≡◌, ℕ, suc, ◌+◌, ◌*◌, ◌^◌, ◌<◌, Bool, true, false, ℤ, pos, negsuc, sym, refl, ap, ◌∙◌, subst, lt_of_lt_of_le, mul_assoc, mul_comm, mul-pos, arith, lit<, lit≤, pow_mono}
 use lib.Pow as Pow
-use lib.Ieee.{Float, fin, binary64, up, down, round, div, of_int}
+use lib.Ieee.{Float, nan, inf, fin, binary64, up, down, round, div, of_int}
 use lib.Ieee.Fits.{down_pos, div-fits}
 use lib.Ieee.Exact.{HasValue, round_exact}
 use lib.Ieee.Back.{round_whole}
@@ -37,6 +37,8 @@ divided t s m e k v h =
 
 div-1024 : (x : Float) (s : Bool) (k : ℕ) → HasValue x s k 1 → k < 2 ^ 53 → HasValue (div binary64 x factor) s k 1024
 unfolding div
+div-1024 nan s k v h = elim v [ ]
+div-1024 (inf _) s k v h = elim v [ ]
 div-1024 (fin true m e) s k v h = divided true s m e k v h
 div-1024 (fin false m e) s k v h = divided false s m e k v h
 

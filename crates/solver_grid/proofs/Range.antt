@@ -4,7 +4,7 @@
 --   left-off, right-off : a float to the left, or to the right, stands for none
 --   range_size : such a float's size
 -- Assumes nothing.
-use Rattle.std.proofs.Common.{◌≡◌, ℕ, suc, ◌*◌, ◌<◌, ◌≤◌, Bool, true, false, ℤ, pos, negsuc, ◌*ℤ◌, ◌≤ℤ◌, ◌<ℤ◌, sym, ap, ◌∙◌, subst, mul-one, arith, lit<, le→leb, ltb→lt, lt→ltb, leb→le, ltb-false, ltb-true}
+use Rattle.std.proofs.Common.{◌≡◌, ℕ, ◌*◌, ◌<◌, ◌≤◌, Bool, true, false, ℤ, pos, negsuc, ◌*ℤ◌, ◌≤ℤ◌, ◌<ℤ◌, sym, ap, ◌∙◌, subst, mul-one, arith, lit<, le→leb, ltb→lt, lt→ltb, leb→le, ltb-false, ltb-true}
 use lib.Signed.{le_z_yes, lt_z, lt_z_yes, lt_z_no, clash_ℤ}
 use lib.Ieee.{Float, nan, inf, fin, up, down, lt}
 use lib.Ieee.Fits.{down_pos}

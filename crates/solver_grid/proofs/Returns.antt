@@ -5,15 +5,14 @@
 --   all-stand     : a list with a whole number for each float has no fault
 --   returns-whole : every list of i32 goes to floats and back unchanged
 -- Assumes nothing.
-use Rattle.std.proofs.Common.{◌≡◌, ℕ, zero, suc, ◌*◌, ◌≤◌, T, List, [], ◌∷◌, length, take, ℤ}
+use Rattle.std.proofs.Common.{◌≡◌, ℕ, zero, suc, ◌*◌, ◌≤◌, List, [], ◌∷◌, length, take, ℤ}
 use native.Mathlib.Nat as N
 use lib.Ieee.{Float}
 use Rattle.floats.specs.Values.{F64, SameNumber}
 use Rattle.element.specs.Control.{at}
 use Rattle.element.specs.Origin.{Held}
-use Rattle.element.specs.Refusals.{code}
 use Rattle.solver_grid.specs.declared.Scaled.{Scaled}
-use Rattle.solver_grid.specs.Grid.{OnGrid, Over, Returned, SomeOff, float}
+use Rattle.solver_grid.specs.Grid.{OnGrid, Over, Returned, SomeOff}
 use Rattle.solver_grid.specs.Calls.{scaled, Pairs, Scales, Unscales, ScaleCoordinates, UnscaleCoordinates}
 use Rattle.solver_grid.proofs.Pairs.{pairs-only, pairs-join}
 use Rattle.solver_grid.proofs.Numbers.{grid-only, over-only, over-stands, back-same, back_float}

@@ -3,7 +3,7 @@
 --   near     : so it is of a float from -2^21 up to 2^21
 --   found, missed : the whole part, taken to a float again, equals it exactly where x stands for a whole number
 -- Assumes nothing.
-use Rattle.std.proofs.Common.{◌≡◌, ◌*◌, ◌^◌, ◌≤◌, true, false, ℤ, pos, sym, ap, ◌∙◌, subst, mul-one, arith, lit<, lit≤}
+use Rattle.std.proofs.Common.{◌≡◌, ◌*◌, ◌^◌, true, false, ℤ, sym, ap, ◌∙◌, subst, mul-one, arith, lit<, lit≤}
 use mathlib.Core.Bool.{false≢true}
 use lib.Ieee.{Float, nan, inf, fin, binary64, up, down, mul, lt, eq, to_signed}
 use lib.Ieee.Fits.{down_pos}

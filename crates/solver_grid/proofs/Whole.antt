@@ -5,7 +5,7 @@
 --   cut-within : and gives as small a number
 --   cut-whole  : which is that of the float, where it is whole
 -- Assumes nothing.
-use Rattle.std.proofs.Common.{◌≡◌, ℕ, ◌+◌, ◌*◌, ◌/◌, ◌<◌, ◌≤◌, min, Bool, true, false, ◌||◌, T, ltb, ℤ, pos, ◌*ℤ◌, neg_ℤ, nat_abs, sym, ap, ◌∙◌, le_trans, le_of_eq, le_of_suc-le-suc, mul-le-mul_right, div-lt_iff_lt-mul, mul-one, mul_right_comm, le_of_mul-le-mul_right, mul-div_cancel, arith, lt→ltb}
+use Rattle.std.proofs.Common.{◌≡◌, ℕ, ◌+◌, ◌*◌, ◌/◌, ◌<◌, ◌≤◌, Bool, true, false, ◌||◌, T, ltb, ℤ, pos, neg_ℤ, nat_abs, sym, ap, ◌∙◌, le_trans, le_of_eq, le_of_suc-le-suc, mul-le-mul_right, div-lt_iff_lt-mul, mul-one, mul_right_comm, le_of_mul-le-mul_right, mul-div_cancel, arith, lt→ltb}
 use native.Mathlib.Nat.{min-eq_left}
 use lib.Ieee.{Float, nan, inf, fin, up, down, le, lt, eq, to_signed}
 use lib.Ieee.Fits.{down_pos}
@@ -22,6 +22,8 @@ Small (inf s) = ⊥
 Small (fin s m e) = m * up e ≤ 2147483648 * down e
 
 pub small_of : (y : Float) (s : Bool) (a c : ℕ) → HasValue y s a c → 0 < c → a ≤ 2147483648 * c → Small y
+small_of nan s a c v p h = elim v [ ]
+small_of (inf _) s a c v p h = elim v [ ]
 small_of (fin t m e) s a c v p h =
     le_of_mul-le-mul_right
     (le_trans (le_of_eq v.1) (le_trans (mul-le-mul_right (down e) h) (le_of_eq (mul_right_comm 2147483648 c (down e))))) p
@@ -32,6 +34,8 @@ or_l false q t = absurd t
 
 pub cut-asks : (y : Float) → Small y → T (le (fin true 1 (pos 63)) y) × T (lt y (fin false 1 (pos 63)))
 unfolding le lt eq
+cut-asks nan h = elim h [ ]
+cut-asks (inf _) h = elim h [ ]
 cut-asks (fin false m e) h =
     let p : 0 < down e = down_pos e in
     let A = 9223372036854775808 * down e in
@@ -55,11 +59,15 @@ part_small m e h =
     le_of_suc-le-suc ((div-lt_iff_lt-mul {y = 2147483649} p).1 (omega arith))
 
 pub cut-within : (y : Float) → Small y → Within 2147483648 (to_signed 63 y)
+cut-within nan h = elim h [ ]
+cut-within (inf _) h = elim h [ ]
 cut-within (fin s m e) h =
     let k = part_small m e h in
     record { size = rw (cut_at s m e k, signed-size s (m * up e / down e)) k }
 
 pub cut-whole : (y : Float) (v : ℤ) → Small y → IsWhole y v → to_signed 63 y ≡ v
+cut-whole nan v h w = elim h [ ]
+cut-whole (inf _) v h w = elim h [ ]
 cut-whole (fin s m e) v h w =
     cut_at s m e (part_small m e h)
     ∙ *ℤ-cancel (signed s (m * up e / down e)) v (pos (down e)) (0<pos (down_pos e))

@@ -1,5 +1,6 @@
 // The calls `scale_coordinates` and `unscale_coordinates`: a solver's coordinates on a grid of 1/1024, to whole numbers and back.
 #![tactic(auto)]
+
 ghost use Rattle.std.specs.Prelude.{◌≡◌, ◌≤◌, true, false, length};
 ghost use Rattle.element.specs.Refusals.{Coded};
 ghost use Rattle.solver_grid.specs.Grid.{OnGrid, Stands, Tells, SomeOff, Over};

@@ -1,5 +1,6 @@
 // The calls on a solver's coordinates: `scale`, `unscale`.
 #![tactic(auto)]
+
 use bits::{floats, patterns};
 use pieces::{coordinates, naturals, room_and_kind, unknown};
 use solver_grid::{scale_coordinates, unscale_coordinates};

@@ -1,5 +1,6 @@
 // The call `straighten` (02, Ask 12): the fewest middle nodes of a triangle, replaced by the middles of their edges, that make it valid.
 #![tactic(auto)]
+
 ghost use Rattle.std.specs.Prelude.{◌≡◌, true, false, ◌<◌, length};
 ghost use Rattle.element.specs.Nodes.{node};
 ghost use Rattle.element.specs.Refusals.{Accepted, level_codes};

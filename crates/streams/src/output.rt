@@ -1,5 +1,7 @@
 // What a call on a block answered, on standard output.
 use pieces::naturals;
+use std::io;
+use std::io::Print;
 use text::write;
 
 // The line of a code and the numbers behind it.
@@ -10,17 +12,18 @@ fn told_line(out: &mut [u8], code: u8, others: &[u64]) -> usize {
 }
 
 // Writes the line, and behind it, where the code is 0, the bytes of a block that are used.
-pub fn tell(code: u8, others: &[u64], block: &[u8], used: u64) {
+pub fn tell<P: Print>(to: &P, code: u8, others: &[u64], block: &[u8], used: u64) -> io::Result<()> {
     let mut line = [0u8; 128];
     let end = told_line(&mut line, code, others);
     if end <= 128 {
-        io::write_all(1, &line[..end]);
+        to.write_all(&line[..end])?;
     }
     if code != 0 {
-        return;
+        return Ok(());
     }
     if used <= block.len() as u64 {
         let n = used as usize;
-        io::write_all(1, &block[..n]);
+        to.write_all(&block[..n])?;
     }
+    Ok(())
 }

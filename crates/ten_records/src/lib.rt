@@ -1,6 +1,7 @@
 // Records of ten-node triangles, as benchmark/records makes them: 84 bytes each, the level limit in 32 bits, and 20 coordinates. No block
 // holds them; the programs that ./bench times read them.
 #![tactic(auto)]
+
 ghost use Rattle.std.specs.Prelude.{◌≡◌, ◌+◌, ◌≤◌, length};
 ghost use Rattle.ten_records.specs.Records.{read_count, read_coords};
 

@@ -1,5 +1,6 @@
 // The call `text`. The buffer and the text stand in the line as hex.
 #![tactic(auto)]
+
 use append_text::append_text;
 use pieces::{buffer, buffer_and_text, naturals, unknown};
 use text::write;

@@ -1,5 +1,6 @@
 // Control values of a triangle: "ckk = 2 det(ak,bk); ckl = det(ak,bl) + det(al,bk)".
 #![tactic(auto)]
+
 ghost use Rattle.std.specs.Prelude.{◌≡◌};
 ghost use Rattle.element.specs.Kinds.{six};
 ghost use Rattle.element.specs.Control.{values6};

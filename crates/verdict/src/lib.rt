@@ -1,5 +1,6 @@
 // The call `verdict`.
 #![tactic(auto)]
+
 ghost use Rattle.std.specs.Prelude.{◌≡◌, ◌≤◌};
 ghost use Rattle.element.specs.Kinds.{six, ten};
 ghost use Rattle.element.specs.Control.{control_values};

@@ -1,12 +1,17 @@
 // Prints the list of the element block on standard input; with a number from 0 to 255 as its only argument, the list under a floor of so
 // many percent on distortion. With any other arguments it prints only `floor`.
 #![tactic(auto)]
+
 ghost use Rattle.std.specs.Prelude.{◌≤◌, ◌<◌, length, take};
 ghost use Rattle.block.specs.Block.{place};
 ghost use Rattle.verdicts.specs.Input.{ListsInput};
 
 use floor::Profile;
 use list::write_by;
+use std::env::{Env, FillError};
+use std::io;
+use std::io::{Print, Read};
+use streams::input::fill;
 use text::read::{number, up_to};
 
 // Writes the list of an input, of which a buffer longer than any block holds the first n bytes, and answers its length.
@@ -21,21 +26,31 @@ fn list_input(bytes: &[u8], n: usize, by: Profile, out: &mut [u8]) -> usize
 }
 
 // Prints the list by a profile.
-fn print(by: Profile) {
+fn print<R: Read, P: Print>(input: &mut R, to: &P, by: Profile) -> io::Result<()> {
     let mut bytes = [0u8; 65536];
-    let n = io::read_full(0, &mut bytes);
+    let read = fill(input, &mut bytes, 0);
     let mut out = [0u8; 71680];
-    let length = list_input(&bytes, n, by, &mut out);
-    io::write_all(1, &out[..length]);
+    let length = list_input(&bytes, read.have, by, &mut out);
+    to.write_all(&out[..length])
+}
+
+// Whether the program has an argument of this number, of any length.
+fn has_arg<E: Env>(env: &E, i: usize) -> bool {
+    let mut word = [0u8; 16];
+    match env.arg(i, &mut word) {
+        Ok(_length) => true,
+        Err(FillError::TooLong) => true,
+        Err(_error) => false,
+    }
 }
 
 // The percentage that the one argument is; 256 where it is no number from 0 to 255, or not the only one.
-fn percent() -> u64 {
-    if os::arg_count() != 2 {
+fn percent<E: Env>(env: &E) -> u64 {
+    if has_arg(env, 2) {
         return 256;
     }
     let mut word = [0u8; 16];
-    let n = os::arg(1, &mut word);
+    let n = env.arg(1, &mut word).unwrap_or(0);
     let p = number(&word[..n], 0);
     if p.next != n {
         return 256;
@@ -43,15 +58,13 @@ fn percent() -> u64 {
     up_to(p, 255)
 }
 
-fn main() {
-    if os::arg_count() < 2 {
-        print(Profile::Plain);
-        return;
+fn main(rt: HostRuntime) -> io::Result<()> {
+    if !has_arg(&rt, 1) {
+        return print(&mut rt.stdin(), &rt, Profile::Plain);
     }
-    let p = percent();
+    let p = percent(&rt);
     if 255 < p {
-        io::write_all(1, b"floor\n");
-        return;
+        return rt.write_all(b"floor\n");
     }
-    print(Profile::Floor(p as u8));
+    print(&mut rt.stdin(), &rt, Profile::Floor(p as u8))
 }

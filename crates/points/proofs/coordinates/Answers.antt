@@ -2,9 +2,9 @@
 use mathlib.Core.Path.{◌≡◌, refl, sym, ◌∙◌, ap, subst}
 use mathlib.Core.Bool.{cond}
 use mathlib.Core.List.{List}
-use Prim.Native.Nat.{ℕ, ◌+◌, ◌*◌, ◌-◌, ◌≤◌, ◌<◌}
+use Prim.Native.Nat.{ℕ, ◌+◌, ◌*◌, ◌<◌}
 use native.Mathlib.Omega.{arith}
-use borrow.Author.Rules.{rules, sfits_of}
+use borrow.Author.Rules.{sfits_of}
 use borrow.Author.Tests.{lt-ltb}
 use lib.Dec.{ltb, lit<}
 use lib.IntN.{ℤ, pos}
@@ -12,16 +12,13 @@ use mir.Syntax.{w64}
 use mir.Val.{to_z, of_z}
 use mir.Facts.{to_z-of_z}
 use Rattle.algebra.specs.Fill.{Filled}
-use Rattle.algebra.proofs.Fill.{fill_start, fill_more, fill_end}
-use Rattle.algebra.proofs.Within.{rd, seen}
+use Rattle.algebra.proofs.Fill.{fill_more, fill_end}
 use Rattle.element.specs.Control.{at}
 use Rattle.element.specs.Origin.{from_first}
 use Rattle.points.specs.Points.{less, place}
-use Rattle.points.proofs.Points.{place-≤}
 use Rattle.points.proofs.First.{less-axis}
 use Rattle.points.proofs.coordinates.Goals as goal
 
--- `points::coordinates` meets its contract: the loop keeps that the first k places are filled, and the last is filled behind it.
 -- one of the nine
 among : (xs : List ℤ) (g a k : ℕ) → k < 9 → cond (ltb k 9) (at xs (2 * place g k + a)) (pos 0) ≡ at xs (2 * place g k + a)
 among xs g a k h = ap (λ b. cond b (at xs (2 * place g k + a)) (pos 0)) (lt-ltb k 9 h)
@@ -31,14 +28,13 @@ as-far {f = f} {l = l} e p = subst (λ n. Filled 10 n f l) e p
 
 pub loop-k-preserved : goal.loop-k-preserved
 loop-k-preserved c =
-    let turn = c in let start = turn in let first = turn.coord-from.ensures in
-    let v = start.args.xs.now in let a = start.args.axis in
+    let v = c.args.xs.now in let a = c.args.axis in
     let e = c.less.ensures.value
-    ∙ ap (λ m. less v (2 * m + a) (to_z w64 (of_z w64 turn.coord-from.result))) c.place-at.ensures
-    ∙ ap (less v (2 * place start.args.gap turn.loop-k.k + a)) ((rd first.1.0 tt).same ∙ first.0)
-    ∙ less-axis v (place start.args.gap turn.loop-k.k) a start.requires.1
-    ∙ sym (among (from_first v) start.args.gap a turn.loop-k.k (omega arith)) in
-    (omega arith, fill_more turn.loop-k.invariant.1 (omega arith) (to_z-of_z (sfits_of c.less.type_inv) ∙ e))
+    ∙ ap (λ m. less v (2 * m + a) (to_z w64 (of_z w64 c.coord-from.result))) c.place-at.ensures
+    ∙ ap (less v (2 * place c.args.gap c.loop-k.k + a)) (to_z-of_z {w = w64} (sfits_of c.coord-from.type_inv) ∙ c.coord-from.ensures.value)
+    ∙ less-axis v (place c.args.gap c.loop-k.k) a c.requires.1
+    ∙ sym (among (from_first v) c.args.gap a c.loop-k.k (omega arith)) in
+    (omega arith, fill_more c.loop-k.invariant.1 (omega arith) (to_z-of_z {w = w64} (sfits_of c.less.type_inv) ∙ e))
 
 pub returns : goal.returns
 returns c =

@@ -1,4 +1,4 @@
--- src/lib.rt:45:5
+-- `points::det` meets its contract: the products of four small numbers fit, and so does their difference.
 use Rattle.algebra.proofs.Within.{rd, st, fits, i-mul, i-sub}
 use Rattle.points.proofs.det.Goals as goal
 
