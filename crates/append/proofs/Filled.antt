@@ -43,7 +43,7 @@ pub ran : {v : ℕ} {b : List ℕ} {used : ℕ} {rs : List Record} {low count ro
     → (m : ℕ) × (a : List ℕ) × Ran v b used gs rs m a
 ran {b = b} {used = used} s f empty = (used, b, ran-none s.held)
 ran {b = b} {used = used} {rs = rs} s f (first {g = g} {gs = gs} a p) =
-    let n = ran (state-next s g f.0 a) f.1 p in
+    let n = ran {b = added b used g} (state-next s g f.0 a) f.1 p in
     let q = n.2 in (
       n.0,
       n.1,

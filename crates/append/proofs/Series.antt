@@ -29,7 +29,7 @@ use Rattle.append.specs.Series.{Given, Series, ended, stopped, onward, given, re
 use Rattle.append.proofs.Orders.{buffer-refused, append-some}
 use Rattle.append.proofs.Outcomes.{appends-unique, appended-is}
 use Rattle.append.proofs.Runs.{appended-holds, appended-rest}
-use Rattle.append.proofs.States.{State, state-of, state-good, refused-at, appended, state-next}
+use Rattle.append.proofs.States.{State, state-of, state-good, refused-at, added, appended, state-next}
 use Rattle.append.proofs.Filled.{Ran, ran-none, ran, ran-filled, ran-exact}
 
 -- ---- one outcome
@@ -75,8 +75,8 @@ state-stops {v} {b} {used} {rs} {low} {count} {room} {gs} {c} s f (here {g = g} 
   stopped (inl (record { refused = refused-at s g c r; no_used = refl; untouched = refl }))
       (refused-some (next_codes low count room g) c tt r),
 )
-state-stops s f (later {g = g} a t) =
-    let n = state-stops (state-next s g f.0 a) f.1 t in
+state-stops {b = b} {used = used} s f (later {g = g} a t) =
+    let n = state-stops {b = added b used g} (state-next s g f.0 a) f.1 t in
     (n.0, onward (inr (appended s g a)) refl n.1)
 
 pub state-passes : {v : ℕ} {b : List ℕ} {used : ℕ} {rs : List Record} {low count room : ℕ} {gs : List Given}

@@ -21,7 +21,7 @@ use Rattle.append.specs.declared.Appended.{Appended}
 use Rattle.append.specs.Append.{buffer_codes}
 use Rattle.append.specs.Calls.{Appends}
 use Rattle.append.specs.Series.{Given, Series, ended, stopped, onward, IdsFit, next_codes, low_after, Stops, here, later, Passes, empty, first}
-use Rattle.append.proofs.States.{State, state-good, answered, refused-at, appended, state-next}
+use Rattle.append.proofs.States.{State, state-good, answered, refused-at, added, appended, state-next}
 
 -- ---- what stops
 pub record Split (low count room : ℕ) (gs : List Given) (c : ℕ) : Type 0 where
@@ -69,8 +69,8 @@ pub state-left : {v : ℕ} {b : List ℕ} {used : ℕ} {rs : List Record} {low c
     → Left v b used gs low count room
 state-left {v} {b} {used} {rs} s f empty =
     record { left = b; up = used; held = rs; series = ended; state = state-same (omega arith) (omega arith) s }
-state-left s f (first {g = g} a p) =
-    let n = state-left (state-next s g f.0 a) f.1 p in
+state-left {b = b} {used = used} s f (first {g = g} a p) =
+    let n = state-left {b = added b used g} (state-next s g f.0 a) f.1 p in
     record {
       left = n.left;
       up = n.up;
