@@ -12,13 +12,16 @@ use Rattle.mesh_elements.specs.Orders.{order}
 use Rattle.mesh_elements.proofs.Orders.{by-type, order-six, order-nine, order-eight, order_small}
 use Rattle.mesh_elements.proofs.gmsh_place.Goals as goal
 
--- `mesh_elements::gmsh_place` meets its contract, type by type.
 -- the third of the types
 eighth : (k n : ℕ) → (k ≡ 9 → ⊥) → (k ≡ 10 → ⊥) → n < size_of_type k → k ≡ 16
 eighth k n a b h = by-type k (k ≡ 16) (λ z. absurd (omega arith)) (λ e. absurd (a e)) (λ e. absurd (b e)) (λ e. e)
 
 some : (k n : ℕ) → n < size_of_type k → ¬ (size_of_type k ≡ 0)
 some k n h z = absurd (omega arith)
+
+module _ (k j : ℕ) (h : j < size_of_type k) where
+  fits : Fits w64 (j * 8)
+  fits = record { fits = omega (arith, size_small k) }
 
 -- what stands in the table
 listed : (k j : ℕ) (l : List ℕ) → l ≡ order k → j < size_of_type k → (get_or l j 0 ≡ get_or (order k) j 0) × (get_or l j 0 < 9)
