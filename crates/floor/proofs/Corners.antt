@@ -10,7 +10,7 @@ use lib.IntN.{ℤ, pos}
 use Rattle.algebra.specs.Expr.{Expr, exprs}
 use Rattle.algebra.proofs.Solve.{solve}
 use Rattle.element.specs.Kinds.{six}
-use Rattle.element.specs.Plane.{Vec, ◌-ᵥ◌, det}
+use Rattle.element.specs.Plane.{◌-ᵥ◌}
 use Rattle.element.specs.Nodes.{A0, A1, A2}
 use Rattle.element.specs.Corners.{corner, SamePlace, Collapsed}
 use Rattle.element.proofs.Formulas as E

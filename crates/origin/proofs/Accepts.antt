@@ -2,7 +2,7 @@
 --   ranged-moved   : a list within a limit from its first node is so wherever it is moved to
 --   moved-accepted : an element that is accepted from its first node is accepted wherever i32 holds it
 -- Assumes nothing.
-use mathlib.Core.Path.{◌≡◌, sym, ◌∙◌, subst}
+use mathlib.Core.Path.{sym, ◌∙◌, subst}
 use mathlib.Core.List.{List}
 use mathlib.Core.Logic.{inr}
 use Prim.Native.Nat.{ℕ}

@@ -6,16 +6,16 @@
 use mathlib.Core.Path.{◌≡◌, sym, ◌∙◌, ap, subst}
 use mathlib.Core.List.{List, ◌++◌}
 use mathlib.Core.Logic.{inl, inr}
-use Prim.Native.Nat.{ℕ, ◌*◌}
+use Prim.Native.Nat.{ℕ}
 use lib.IntN.{ℤ}
 use lib.ListN.{length, drop}
-use Rattle.element.specs.Kinds.{kind_of, NotKind, node_count, value_count}
+use Rattle.element.specs.Kinds.{kind_of, NotKind, value_count}
 use Rattle.element.specs.Control.{control_values}
 use Rattle.element.specs.Origin.{moved_by}
-use Rattle.element.specs.Refusals.{Codes, no_more, code, Refused, Accepted, ShortRoom, control_codes, bounds_codes}
+use Rattle.element.specs.Refusals.{Codes, no_more, code, Refused, ShortRoom, control_codes, bounds_codes}
 use Rattle.element.proofs.Origin.{values_moved}
 use Rattle.faults.proofs.Limits.{kind-long}
-use Rattle.control.specs.Calls.{controlled, ControlValues, code_of, SolverBounds, BoundsOf, bounds_of}
+use Rattle.control.specs.Calls.{ControlValues, code_of, SolverBounds, BoundsOf, bounds_of}
 use Rattle.control.specs.declared.Controlled.{Controlled}
 use Rattle.control.specs.declared.Bounded.{Bounded}
 use Rattle.control.proofs.Outcomes.{control-values-unique, solver-bounds-unique}

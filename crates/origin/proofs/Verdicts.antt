@@ -21,7 +21,7 @@ use Rattle.element.proofs.Origin.{jacobian-moved}
 use Rattle.verdict.specs.Calls.{VerdictOf}
 use Rattle.verdict.specs.declared.Judged.{Judged}
 use Rattle.verdict.proofs.Outcomes.{verdict-unique}
-use Rattle.floor.specs.Floor.{straight, margin, shifted}
+use Rattle.floor.specs.Floor.{margin, shifted}
 use Rattle.floor.specs.Calls.{NoPercent, NotPositive, floor_codes, FloorOf}
 use Rattle.floor.proofs.Still.{straight-moved, shifted-moved}
 use Rattle.floor.proofs.Parts.{small}
