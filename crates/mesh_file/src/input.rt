@@ -53,6 +53,7 @@ fn settle_last<P: Print>(to: &P, room: &[u8], read: Filled, limit: u8) -> io::Re
 }
 
 // Reads the text into the large room, behind its first bytes.
+#[tactic(none)]
 fn in_large<R: Read, P: Print>(input: &mut R, to: &P, first: &[u8], limit: u8) -> io::Result<()> {
     let mut room = [0u8; 67108865];
     let read = read_on(input, first, &mut room);
@@ -61,6 +62,7 @@ fn in_large<R: Read, P: Print>(input: &mut R, to: &P, first: &[u8], limit: u8) -
 
 // Reads the text, with so many rooms left: two, the small one first; one, the large one; none where it is settled. The compiler takes
 // no large array into a function that calls itself, so the large room is on the stack only while it is used.
+#[tactic(none)]
 pub fn read_in<R: Read, P: Print>(
     input: &mut R,
     to: &P,
