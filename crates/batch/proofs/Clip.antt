@@ -5,7 +5,7 @@
 --   clips-same     : where all are i32, they are the same
 --   clips-stands   : so the clipped numbers stand for the others
 -- Assumes nothing.
-use mathlib.Core.Path.{◌≡◌, refl, sym, ap, ap₂}
+use mathlib.Core.Path.{◌≡◌, refl, ap, ap₂}
 use mathlib.Core.List.{List, [], ◌∷◌, ◌++◌}
 use Prim.Native.Nat.{ℕ, zero, suc, ◌≤◌, ◌<◌, min, zero-le, suc-le-suc}
 use native.Mathlib.Nat as N

@@ -6,7 +6,7 @@
 --   stands-coords  : where it passes the two are the same
 --   narrowed-length, narrowed-stands : what is narrowed stands for the numbers, where they are as many as the kind has
 -- Assumes nothing.
-use mathlib.Core.Path.{◌≡◌, refl, sym, ap, ◌∙◌, subst}
+use mathlib.Core.Path.{◌≡◌, sym, ap, ◌∙◌, subst}
 use mathlib.Core.List.{List}
 use mathlib.Core.Logic.{◌⊎◌, inl, inr}
 use Prim.Native.Nat.{ℕ, ◌*◌, ◌≤◌}

@@ -1,26 +1,17 @@
 -- Cuttings as bytes: the same bytes are the same cutting, however it goes on; and how many bytes there are.
---   bytes-keep, bytes_cut : the bytes of a cell that is kept, and of one that is cut, with something behind them
 --   bytes-unique   : two cuttings with something behind them that are the same bytes are one, and so is what is behind
 --   sheet-unique   : the same sheet is the same cutting
 --   sheet-size     : the sheet of a cutting into m cells has 5 + (4m - 1) / 3 bytes
--- Assumes nothing.
+-- The bytes of a cell that is kept, and of one that is cut, stand in Heads. Assumes nothing.
 use mathlib.Core.Path.{◌≡◌, refl, sym, ◌∙◌}
-use mathlib.Core.List.{List, [], ◌∷◌, ◌++◌, append_assoc, append-nil}
+use mathlib.Core.List.{List, [], ◌∷◌, ◌++◌, append-nil}
 use Prim.Native.Nat.{ℕ, ◌+◌, ◌*◌}
 use native.Mathlib.Omega.{arith}
 use lib.ListN.{length, length-append}
 use Rattle.forms.specs.Cuttings.{Cutting, keep, cut, leaves}
 use Rattle.forms.proofs.Cuttings.{leaves-positive}
+pub use Rattle.cuttings.proofs.Heads.{bytes-keep, bytes_cut}
 use Rattle.cuttings.specs.Bytes.{cutting_bytes, sheet_bytes, sheet_size}
-
-pub bytes-keep : (l : List ℕ) → cutting_bytes keep ++ l ≡ 0 ∷ l
-unfolding cutting_bytes
-bytes-keep l = refl
-
-pub bytes_cut : (a b c d : Cutting) (l : List ℕ)
-    → cutting_bytes (cut a b c d) ++ l ≡ 1 ∷ (cutting_bytes a ++ (cutting_bytes b ++ (cutting_bytes c ++ (cutting_bytes d ++ l))))
-unfolding cutting_bytes
-bytes_cut a b c d l = simp append_assoc
 
 pub head-is : {x y : ℕ} {l m : List ℕ} → x ∷ l ≡ y ∷ m → x ≡ y
 head-is e = cc

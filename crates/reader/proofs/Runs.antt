@@ -32,7 +32,7 @@ use Rattle.reader.specs.declared.Found.{Found}
 use Rattle.reader.specs.declared.Opened.{Opened}
 use Rattle.reader.specs.declared.Reader.{Reader}
 use Rattle.reader.specs.declared.Stepped.{Stepped}
-use Rattle.reader.specs.Steps.{over_at, found_at, step_at, Steps, Opens}
+use Rattle.reader.specs.Steps.{over_at, found_at, step_at, Steps}
 use Rattle.reader.specs.Runs.{OpensReader, StepsReader, Ran, none, more, record_next, over_next, fetch_of}
 use Rattle.reader.proofs.Walked.{step-over, step-found, steps-unique, opens-checks, opens-unique, opens-begins, opens-refused, refused-ends}
 

@@ -34,6 +34,7 @@ fn read_once<R: Read>(input: &mut R, room: &mut [u8], have: usize) -> Came
 // Reads behind the first bytes of a room until it is full or the input ends.
 pub fn fill<R: Read>(input: &mut R, room: &mut [u8], from: usize) -> Filled
     requires { from ≤ length room.old }
+    ensures { result.have ≤ length room.old }
 {
     let mut have = from;
     while have < room.len() {

@@ -1,18 +1,14 @@
 -- `append::append_code` meets its contract: the block's codes, then those of the element behind it.
 use mathlib.Core.Logic.{inl, inr}
 use mathlib.Core.Path.{◌≡◌, ap}
-use native.Mathlib.Omega.{arith}
 use Rattle.element.specs.Refusals.{Coded}
 use Rattle.element.proofs.Refusals.{coded-some, coded_none}
 use Rattle.block.specs.declared.Checked.{Checked}
 use Rattle.block.specs.Block.{count_of}
 use Rattle.block.specs.Faults.{block_codes}
 use Rattle.block.specs.Calls.{Counted}
-use Rattle.block.proofs.Header.{header-size}
-use Rattle.block.proofs.Walk.{accepted-header}
 use Rattle.block.proofs.Answers.{checks-refused, checks-counted}
 use Rattle.append.proofs.Orders.{given, block_refused, given-refused, given-accepted}
-use borrow.Author.Rules.{rules}
 use Rattle.append.proofs.append_code.Goals as goal
 
 pub returns-then-c-ne0 : goal.returns-then-c-ne0

@@ -1,26 +1,13 @@
 -- `append::append_record` meets its contract: a refusal writes nothing; else the record is written, and then the count.
-use mathlib.Core.Logic.{inl, inr}
-use mathlib.Core.Path.{◌≡◌, refl, sym, ap, ap₂, ◌∙◌}
-use mathlib.Core.List.{List}
-use Prim.Native.Nat.{ℕ, suc, ◌+◌, ◌-◌, ◌≤◌, ◌<◌}
+use mathlib.Core.Logic.{inl}
+use mathlib.Core.Path.{refl}
+use Prim.Native.Nat.{◌-◌}
 use native.Mathlib.Nat as N
-use native.Mathlib.Numerals.{add-one}
 use native.Mathlib.Omega.{arith}
-use lib.IntN.{ℤ}
 use lib.ListN.{length, take}
-use lib.Seq.{length-take-le}
-use Rattle.endian.specs.Numbers.{over}
-use Rattle.endian.proofs.Writes.{length_over}
-use Rattle.record.specs.Record.{record_bytes}
-use Rattle.record.proofs.Codec.{numbers-length}
-use Rattle.block.specs.declared.Checked.{Checked}
-use Rattle.block.specs.Block.{count_of}
-use Rattle.append.specs.Append.{room_codes, padded, new_record}
-use Rattle.append.specs.Calls.{IsAllowed, with_count}
-use Rattle.append.proofs.Orders.{allows-refused, allows-allowed, used-refused, room-refused, append-accepted, RoomSound, room-sound}
-use Rattle.append.proofs.Padded.{padded-length}
+use Rattle.append.specs.Append.{room_codes}
+use Rattle.append.proofs.Orders.{allows-refused, allows-allowed, room-refused, room-sound}
 use Rattle.append.proofs.Turns.{short-given}
-use borrow.Author.Rules.{rules}
 use Rattle.append.proofs.append_record.Goals as goal
 
 pub returns-then-c-ne0 : goal.returns-then-c-ne0

@@ -1,18 +1,16 @@
 -- `append::put_numbers` meets its contract: the loop keeps that the first k numbers are written.
-use mathlib.Core.Path.{◌≡◌, refl, ap, ◌∙◌}
-use mathlib.Core.List.{List, [], ◌∷◌}
-use Prim.Native.Nat.{ℕ, ◌+◌, ◌*◌, ◌-◌, ◌≤◌}
+use mathlib.Core.Path.{◌≡◌, ap, ◌∙◌}
+use mathlib.Core.List.{List}
+use Prim.Native.Nat.{ℕ, ◌+◌, ◌*◌}
 use native.Mathlib.Omega.{arith}
 use lib.IntN.{ℤ, pos}
-use lib.ListN.{length, get_or, take}
-use lib.Seq.{take_all}
+use lib.ListN.{get_or}
 use borrow.Author.Rules.{rules}
 use mir.Syntax.{w32}
 use mir.Val.{to_z, of_z}
 use mir.Facts.{to_z-of_z}
 use Rattle.endian.specs.Numbers.{signed_bytes, over}
-use Rattle.record.specs.Record.{numbers_bytes}
-use Rattle.append.proofs.Fills.{over_none, front-over, numbers-turn}
+use Rattle.append.proofs.Fills.{numbers-turn}
 use Rattle.append.proofs.put_numbers.Goals as goal
 
 pub loop-k-preserved : goal.loop-k-preserved

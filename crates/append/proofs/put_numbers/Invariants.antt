@@ -1,18 +1,9 @@
 -- `append::put_numbers` meets its contract: the loop keeps that the first k numbers are written.
-use mathlib.Core.Path.{◌≡◌, refl, ap, ◌∙◌}
-use mathlib.Core.List.{List, [], ◌∷◌}
-use Prim.Native.Nat.{ℕ, ◌+◌, ◌*◌, ◌-◌, ◌≤◌}
-use native.Mathlib.Omega.{arith}
-use lib.IntN.{ℤ, pos}
-use lib.ListN.{length, get_or, take}
-use lib.Seq.{take_all}
-use borrow.Author.Rules.{rules}
-use mir.Syntax.{w32}
-use mir.Val.{to_z, of_z}
-use mir.Facts.{to_z-of_z}
-use Rattle.endian.specs.Numbers.{signed_bytes, over}
+use mathlib.Core.Path.{◌≡◌}
+use Prim.Native.Nat.{◌-◌, ◌≤◌}
+use lib.ListN.{length, take}
+use Rattle.endian.specs.Numbers.{over}
 use Rattle.record.specs.Record.{numbers_bytes}
-use Rattle.append.proofs.Fills.{over_none, front-over, numbers-turn}
 use Rattle.append.proofs.put_numbers.Given as goal
 
 abbrev pub invariant-loop-k : goal.invariant-loop-k

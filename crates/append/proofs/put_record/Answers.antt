@@ -2,12 +2,10 @@
 use mathlib.Core.Path.{◌≡◌, ap, ◌∙◌}
 use mathlib.Core.List.{List}
 use Prim.Native.Nat.{ℕ, ◌+◌}
-use native.Mathlib.Omega.{arith}
-use lib.ListN.{length, length-set}
+use lib.ListN.{length}
 use Rattle.endian.specs.Numbers.{over}
-use Rattle.endian.proofs.Writes.{puts, length_over}
-use Rattle.record.specs.Record.{numbers_bytes, record_bytes}
-use Rattle.record.proofs.Codec.{numbers-length}
+use Rattle.endian.proofs.Writes.{puts}
+use Rattle.record.specs.Record.{numbers_bytes}
 use Rattle.append.proofs.Written.{middle, record-over}
 use borrow.Author.Rules.{rules}
 use Rattle.append.proofs.put_record.Goals as goal

@@ -1,10 +1,8 @@
 -- `batch::take` meets its contract: what is tried stands for what is given. Assumes nothing.
-use mathlib.Core.Path.{refl, sym, ap}
-use lib.ListN.{length, take}
+use mathlib.Core.Path.{refl, ap}
 use Rattle.append.specs.Append.{new_record}
 use Rattle.batch.proofs.Same.{same-moves}
 use Rattle.batch.proofs.Stands.{stands-codes, stands-coords, narrowed-length, narrowed-stands}
-use borrow.Author.Rules.{rules}
 use Rattle.batch.proofs.take.Goals as goal
 
 pub returns : goal.returns

@@ -3,7 +3,6 @@ use mathlib.Core.Path.{sym, ap, ◌∙◌, subst}
 use mathlib.Core.List.{List}
 use mathlib.Core.Logic.{inl, inr}
 use Prim.Native.Nat.{◌*◌}
-use native.Mathlib.Omega.{arith}
 use lib.IntN.{ℤ}
 use Rattle.element.specs.Refusals.{Refused, Accepted}
 use Rattle.element.proofs.Refusals.{coded-some, coded_none}
@@ -11,8 +10,7 @@ use Rattle.endian.specs.Numbers.{over}
 use Rattle.record.specs.Record.{record_bytes}
 use Rattle.append.specs.Series.{Given, next_codes}
 use Rattle.batch.specs.declared.Tally.{Tally}
-use Rattle.batch.proofs.Takes.{tried-short, tried-room, taken-halted, taken-moved}
-use borrow.Author.Rules.{rules}
+use Rattle.batch.proofs.Takes.{taken-halted, taken-moved}
 use Rattle.batch.proofs.take_held.Goals as goal
 
 pub returns-then-code-ne0 : goal.returns-then-code-ne0

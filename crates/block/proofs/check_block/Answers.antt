@@ -1,7 +1,6 @@
 -- `block::check_block` meets its contract: the form, and then the signs.
 use mathlib.Core.Logic.{inl}
 use mathlib.Core.Path.{ap}
-use borrow.Author.Rules.{rules}
 use Rattle.block.specs.declared.Checked.{Checked}
 use Rattle.block.specs.Faults.{form_codes}
 use Rattle.block.proofs.Walk.{form-some, form-refused}

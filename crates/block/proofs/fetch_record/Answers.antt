@@ -2,7 +2,6 @@
 use mathlib.Core.Logic.{inr}
 use mathlib.Core.Path.{◌≡◌, ap, ◌∙◌}
 use native.Mathlib.Omega.{arith}
-use borrow.Author.Rules.{rules}
 use Rattle.record.specs.declared.Record.{Record}
 use Rattle.block.specs.declared.Checked.{Checked}
 use Rattle.block.specs.Block.{count_of}

@@ -1,12 +1,7 @@
 -- `block::next_signed` meets its contract: the loop keeps that no record before record k is signed. Assumes nothing.
-use mathlib.Core.Path.{◌≡◌, sym, ap, ◌∙◌, subst}
-use mathlib.Core.List.{List}
-use Prim.Native.Nat.{ℕ, suc, ◌+◌, ◌*◌, ◌-◌, ◌≤◌, ◌<◌}
-use native.Mathlib.Omega.{arith}
-use native.Mathlib.Decide.{dec_le}
-use lib.ListN.{length, get_or}
-use Rattle.block.specs.Block.{place, record_at}
-use Rattle.block.proofs.Header.{header-few, header-size}
+use mathlib.Core.Path.{◌≡◌}
+use Prim.Native.Nat.{ℕ, ◌-◌, ◌≤◌, ◌<◌}
+use Rattle.block.specs.Block.{record_at}
 use Rattle.block.proofs.next_signed.Given as goal
 
 abbrev pub invariant-loop-k : goal.invariant-loop-k

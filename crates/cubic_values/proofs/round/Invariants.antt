@@ -1,5 +1,5 @@
 -- `cubic_values::round` is safe and ends: the number rises to the count.
-use Rattle.std.proofs.Common.{◌-◌, ◌<◌, ◌≤◌, arith, rules}
+use Rattle.std.proofs.Common.{◌-◌, ◌≤◌}
 use Rattle.cubic_values.proofs.round.Given as goal
 
 abbrev pub invariant-loop-k : goal.invariant-loop-k

@@ -1,5 +1,5 @@
 -- `cubic_values::rounds` is safe and ends: there are 64 turns.
-use Rattle.std.proofs.Common.{◌-◌, ◌<◌, ◌≤◌, arith, rules}
+use Rattle.std.proofs.Common.{◌-◌, ◌≤◌}
 use Rattle.cubic_values.proofs.rounds.Given as goal
 
 abbrev pub invariant-loop-turn : goal.invariant-loop-turn

@@ -4,7 +4,6 @@ use mathlib.Core.List.{List}
 use mathlib.Core.Path.{◌≡◌, refl, ap, subst}
 use Prim.Native.Nat.{ℕ, ◌+◌}
 use native.Mathlib.Omega.{arith}
-use borrow.Author.Rules.{rules}
 use Rattle.block.specs.Block.{count_of}
 use Rattle.block.specs.Calls.{Counted, NextSigned}
 use Rattle.block.specs.declared.Checked.{Checked}

@@ -1,9 +1,6 @@
 -- `signing::check_version` meets its contract: 6 and 7, and then the block's codes. Assumes nothing.
-use mathlib.Core.Logic.{inl}
-use mathlib.Core.Path.{refl}
-use borrow.Author.Rules.{rules}
-use Rattle.element.proofs.Refusals.{coded-some, coded_none}
-use Rattle.signing.proofs.Orders.{version-refused, by-version}
+use Rattle.element.proofs.Refusals.{coded_none}
+use Rattle.signing.proofs.Orders.{by-version}
 use Rattle.signing.proofs.check_version.Goals as goal
 
 pub returns : goal.returns

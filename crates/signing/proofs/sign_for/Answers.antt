@@ -4,7 +4,6 @@ use mathlib.Core.List.{List}
 use mathlib.Core.Path.{◌≡◌, refl, sym, ap, ◌∙◌, subst}
 use Prim.Native.Nat.{ℕ, ◌<◌}
 use native.Mathlib.Omega.{arith}
-use borrow.Author.Rules.{rules}
 use Rattle.element.specs.Kinds.{kind_of}
 use Rattle.element.specs.Refusals.{Refused, verdict_codes}
 use Rattle.judge.specs.Verdict.{Answer}
@@ -12,9 +11,8 @@ use Rattle.judge.proofs.Faithful.{element-faithful}
 use Rattle.judge.proofs.Unique.{judges-unique}
 use Rattle.verdict.specs.Calls.{HasVerdict}
 use Rattle.record.specs.Record.{used, WellFormed}
-use Rattle.record.proofs.Known.{known-level}
 use Rattle.signs.specs.Signs.{element, sign_of, limit_of}
-use Rattle.signs.proofs.Verdicts.{formed-limit, sign-told, level-told}
+use Rattle.signs.proofs.Verdicts.{sign-told, level-told}
 use Rattle.block.specs.Block.{version_of, count_of, record_at}
 use Rattle.block.specs.Calls.{Counted}
 use Rattle.block.specs.declared.Checked.{Checked}
@@ -26,7 +24,7 @@ use Rattle.signing.specs.declared.Sign.{Sign}
 use Rattle.signing.specs.Orders.{of_version, sign_codes}
 use Rattle.signing.specs.Steps.{Signable}
 use Rattle.signing.proofs.Orders.{version-accepted, version-some, sign-block, sign-beyond, sign-open, sign-accepted}
-use Rattle.signing.proofs.Signed.{zero-open, open-zero, settled-level, judged-of}
+use Rattle.signing.proofs.Signed.{zero-open, open-zero, judged-of}
 use Rattle.signing.proofs.sign_for.Goals as goal
 
 no_sign : {l : List ℕ} {k c n : ℕ} {m : Sign} → m ≡ record { code = c; number = n; signed = 0; level = 0 } → ¬ (c ≡ 0)

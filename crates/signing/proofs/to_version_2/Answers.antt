@@ -1,13 +1,10 @@
 -- `signing::to_version_2` meets its contract: a refusal writes nothing; else the version is written. Assumes nothing.
 use mathlib.Core.Logic.{inl, inr}
 use mathlib.Core.Path.{refl}
-use borrow.Author.Rules.{rules}
 use Rattle.block.specs.Calls.{Counted}
-use Rattle.block.proofs.Header.{header-long}
-use Rattle.block.proofs.Walk.{accepted-header}
 use Rattle.block.proofs.Answers.{by-none, by-counted}
 use Rattle.signing.specs.Orders.{newer_codes}
-use Rattle.signing.proofs.Orders.{version-accepted, version-some}
+use Rattle.signing.proofs.Orders.{version-some}
 use Rattle.signing.proofs.to_version_2.Goals as goal
 
 pub returns-then-c-ne0 : goal.returns-then-c-ne0

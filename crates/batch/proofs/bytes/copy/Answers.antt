@@ -1,11 +1,9 @@
 -- `batch::bytes::copy` meets its contract: the loop keeps that the first k bytes are written.
-use mathlib.Core.Path.{◌≡◌, ap, ◌∙◌}
-use Prim.Native.Nat.{◌+◌, ◌-◌, ◌≤◌}
+use mathlib.Core.Path.{ap, ◌∙◌}
+use Prim.Native.Nat.{◌+◌}
 use native.Mathlib.Omega.{arith}
-use borrow.Author.Rules.{rules}
-use lib.ListN.{length, take, get_or, set}
-use Rattle.endian.specs.Numbers.{over}
-use Rattle.batch.proofs.Copies.{copy-none, copy_more, copy-all, copy-length}
+use lib.ListN.{get_or, set}
+use Rattle.batch.proofs.Copies.{copy_more}
 use Rattle.batch.proofs.bytes.copy.Goals as goal
 
 pub loop-k-preserved : goal.loop-k-preserved

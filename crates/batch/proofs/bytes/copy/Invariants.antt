@@ -1,11 +1,8 @@
 -- `batch::bytes::copy` meets its contract: the loop keeps that the first k bytes are written.
-use mathlib.Core.Path.{◌≡◌, ap, ◌∙◌}
-use Prim.Native.Nat.{◌+◌, ◌-◌, ◌≤◌}
-use native.Mathlib.Omega.{arith}
-use borrow.Author.Rules.{rules}
-use lib.ListN.{length, take, get_or, set}
+use mathlib.Core.Path.{◌≡◌}
+use Prim.Native.Nat.{◌-◌, ◌≤◌}
+use lib.ListN.{length, take}
 use Rattle.endian.specs.Numbers.{over}
-use Rattle.batch.proofs.Copies.{copy-none, copy_more, copy-all, copy-length}
 use Rattle.batch.proofs.bytes.copy.Given as goal
 
 abbrev pub invariant-loop-k : goal.invariant-loop-k

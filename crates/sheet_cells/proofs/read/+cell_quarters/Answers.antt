@@ -1,4 +1,5 @@
 -- `read::cell` and `read::quarters` meet their contracts: by the byte at the place. What is left falls, or the quarters do. Assumes
+-- nothing.
 use mathlib.Core.Path.{sym, ◌∙◌}
 use native.Mathlib.Omega.{arith}
 use mathlib.Core.Logic.{inl, inr}
@@ -50,7 +51,7 @@ cell-returns t c =
 
 pub quarters-quarter-requires : goal.quarters-quarter-requires
 quarters-quarter-requires t c =
-    let a = c.args in
+    let a = c.args in let g = c.if-i-eq4.false in
     (omega (arith, c.requires.0), cut-room (growth_by a.triangle) a.left (values_by a.triangle a.c) c.requires.1)
 
 pub quarters-cell-first-requires : goal.quarters-cell-first-requires
@@ -62,18 +63,18 @@ quarters-cell-first-requires t c =
 
 pub quarters-quarters-requires : goal.quarters-quarters-requires
 quarters-quarters-requires t c =
-    let a = c.args in
+    let a = c.args in let g = c.if-i-eq4.false in
     let h = answered (shape_by a.triangle) a.left (values_by a.triangle a.c) a.sheet.now a.at a.i (values_by a.triangle c.quarter.result) c.in-Next.is c.cell-first.ensures in
     (omega (arith, c.decreases, c.requires.0), (omega (arith, c.requires.0), c.requires.1, h.0))
 
 pub quarters-returns-in-Next : goal.quarters-returns-in-Next
 quarters-returns-in-Next t c =
-    let a = c.args in
+    let a = c.args in let g = c.if-i-eq4.false in
     one_more (shape_by a.triangle) a.left (values_by a.triangle a.c) a.sheet.now a.at a.i c.in-Next.next c.quarters.result (omega (arith, c.requires.0)) c.quarter.ensures
     (answered (shape_by a.triangle) a.left (values_by a.triangle a.c) a.sheet.now a.at a.i (values_by a.triangle c.quarter.result) c.in-Next.is c.cell-first.ensures) c.quarters.ensures
 
 pub quarters-returns-in-Failed : goal.quarters-returns-in-Failed
 quarters-returns-in-Failed t c =
-    let a = c.args in
+    let a = c.args in let g = c.if-i-eq4.false in
     one-failed (shape_by a.triangle) a.left (values_by a.triangle a.c) a.sheet.now a.at a.i (omega (arith, c.requires.0)) c.quarter.ensures
     (answered (shape_by a.triangle) a.left (values_by a.triangle a.c) a.sheet.now a.at a.i (values_by a.triangle c.quarter.result) c.in-Failed.is c.cell-first.ensures)

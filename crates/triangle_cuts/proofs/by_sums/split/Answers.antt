@@ -57,6 +57,9 @@ overflow_add-e12-2 c = fits (i-add (st (i-add (at c.requires.1 1) (st (i-mul (li
 pub overflow_add-e02-2 : goal.overflow_add-e02-2
 overflow_add-e02-2 c = fits (i-add (st (i-add (at c.requires.1 0) (st (i-mul (lit 2) (at c.requires.1 5)) tt)) tt) (at c.requires.1 2)) tt
 
+pub overflow_add-m-2 : goal.overflow_add-m-2
+overflow_add-m-2 c = fits (i-add (st (i-add (at c.requires.1 3) (at c.requires.1 4)) tt) (at c.requires.1 5)) tt
+
 pub overflow_add-result-then-i-eq0 : goal.overflow_add-result-then-i-eq0
 overflow_add-result-then-i-eq0 c = fits (i-add (at c.requires.1 0) (centre c.requires.1)) tt
 

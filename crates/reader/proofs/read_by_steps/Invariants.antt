@@ -1,0 +1,11 @@
+-- `reader::read_by_steps` meets its contract: the loop keeps that the next step begins at record j.
+use mathlib.Core.Path.{◌≡◌}
+use Prim.Native.Nat.{◌-◌, ◌≤◌}
+use Rattle.block.specs.Block.{count_of, place}
+use Rattle.reader.proofs.read_by_steps.Given as goal
+
+abbrev pub invariant-loop-j : goal.invariant-loop-j
+invariant-loop-j l = (l.j ≤ l.k) × (l.j ≤ count_of l.bytes) × (l.at ≡ place l.j)
+
+abbrev pub decreases-loop-j : goal.decreases-loop-j
+decreases-loop-j l = l.k - l.j
