@@ -1,0 +1,67 @@
+-- `mending::straighten_record` meets its contract: a refusal writes nothing; else the replaced nodes are written, and the sign is dropped.
+-- Assumes nothing.
+use mathlib.Core.Path.{◌≡◌, ap}
+use mathlib.Core.List.{List}
+use mathlib.Core.Logic.{inl, inr}
+use Prim.Native.Nat.{ℕ, ◌+◌, ◌≤◌}
+use native.Mathlib.Omega.{arith}
+use lib.Dec.{lit<}
+use lib.ListN.{length}
+use Rattle.record.specs.Record.{used}
+use Rattle.block.specs.Block.{place, record_at}
+use Rattle.mending.specs.declared.Mended.{Mended}
+use Rattle.mending.specs.Calls.{NotMended, IsMended}
+use Rattle.mending.specs.Steps.{Tried}
+use Rattle.mending.proofs.Orders.{mend-room, mend-some}
+use Rattle.mending.proofs.Writes.{all-written}
+use Rattle.mending.proofs.straighten_record.Goals as goal
+
+refused : {l : List ℕ} {k : ℕ} {m : Mended} → Tried l k m → ¬ (m.code ≡ 0) → NotMended l k m l
+refused (inl p) h = p
+refused (inr (a, p)) h = absurd (h (ap (λ (m : Mended). m.code) p.told))
+
+mended : {l : List ℕ} {k : ℕ} {m : Mended} → Tried l k m → m.code ≡ 0 → (a : List ℕ) × IsMended l k m a
+mended {l} {k} {m} (inl p) h = absurd (mend-some l k (record { code = m.code; number = m.number }) p.refused h)
+mended (inr p) h = p
+
+pub returns-then-m-ne0 : goal.returns-then-m-ne0
+returns-then-m-ne0 c = inl (refused c.try_record-m.ensures c.if-m-ne0.true)
+
+pub put_moved-requires : goal.put_moved-requires
+put_moved-requires c =
+    let done : let a = c.args in (o : List ℕ) × IsMended a.block.now a.k c.try_record-m.result o = mended c.try_record-m.ensures c.if-m-ne0.false in
+    let room : let a = c.args in place a.k + 80 ≤ length a.block.now = (let a = c.args in mend-room a.block.now a.k done.1.accepted) in
+    (room, lit< tt)
+
+pub put_moved-requires-2 : goal.put_moved-requires-2
+put_moved-requires-2 c =
+    let done : let a = c.args in (o : List ℕ) × IsMended a.block.now a.k c.try_record-m.result o = mended c.try_record-m.ensures c.if-m-ne0.false in
+    let room : let a = c.args in place a.k + 80 ≤ length a.block.now = (let a = c.args in mend-room a.block.now a.k done.1.accepted) in
+    (omega (arith, room, c.put_moved.auto.block), lit< tt)
+
+pub put_moved-requires-3 : goal.put_moved-requires-3
+put_moved-requires-3 c =
+    let done : let a = c.args in (o : List ℕ) × IsMended a.block.now a.k c.try_record-m.result o = mended c.try_record-m.ensures c.if-m-ne0.false in
+    let room : let a = c.args in place a.k + 80 ≤ length a.block.now = (let a = c.args in mend-room a.block.now a.k done.1.accepted) in
+    (omega (arith, room, c.put_moved.auto.block, c.put_moved-2.auto.block), lit< tt)
+
+pub unsign-requires : goal.unsign-requires
+unsign-requires c =
+    let done : let a = c.args in (o : List ℕ) × IsMended a.block.now a.k c.try_record-m.result o = mended c.try_record-m.ensures c.if-m-ne0.false in
+    let room : let a = c.args in place a.k + 80 ≤ length a.block.now = (let a = c.args in mend-room a.block.now a.k done.1.accepted) in
+    omega (arith, room, c.put_moved.auto.block, c.put_moved-2.auto.block, c.put_moved-3.auto.block)
+
+pub returns : goal.returns
+returns c =
+    let done : let a = c.args in (o : List ℕ) × IsMended a.block.now a.k c.try_record-m.result o = mended c.try_record-m.ensures c.if-m-ne0.false in
+    let a = c.args in
+    let l = a.block.now in let d = done.1 in
+    inr
+    (record {
+      accepted = d.accepted;
+      set = d.set;
+      chosen = d.chosen;
+      told = d.told;
+      written = all-written a.k (used (record_at l a.k)) d.set l (ap (λ (m : Mended). m.m01) d.told) (ap (λ (m : Mended). m.m12) d.told)
+          (ap (λ (m : Mended). m.m02) d.told) c.put_moved.ensures c.put_moved-2.ensures c.put_moved-3.ensures c.unsign.ensures;
+    })
