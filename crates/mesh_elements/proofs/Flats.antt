@@ -37,6 +37,7 @@ flat-of (node_row {x = x} {y = y} {z = z} c h k l) f =
 -- ---- rows
 rows_true : {rs : List Row} {ns : List Node} → Pairs NodeRow rs ns → flats_b rs ≡ true → {n : Node} → Memᴰ n ns → Flat n
 unfolding flats_b
+rows_true no_pairs e {n = n} m = elim m [ ]
 rows_true (pair {a = r} {l = rs} h p) e (Memᴰ.head i) = subst Flat (sym i) (flat-true h (and_both (flat_b r) (flats_b rs) e).0)
 rows_true (pair {a = r} {l = rs} h p) e (Memᴰ.tail m) = rows_true p (and_both (flat_b r) (flats_b rs) e).1 m
 
