@@ -59,7 +59,7 @@ returns-then-signed-eq0 c =
     let formed : WellFormed (version_of c.args.bytes.now) (record_at c.args.bytes.now c.args.k) = (let a = c.args in
     let l = a.bytes.now in
     let b = version-accepted 2 l counted.accepted in
-    form-formed l (record { each = λ n. omega (arith, c.shared_slice_known-1.given n) }) (accepted-form l b.1) a.k below) in
+    form-formed l (record { each = λ n. omega (arith, c.type_inv.bytes n) }) (accepted-form l b.1) a.k below) in
     let found : c.record_at-r.result ≡ record_at c.args.bytes.now c.args.k = (let a = c.args in
     let l = a.bytes.now in
     let b = version-accepted 2 l counted.accepted in
@@ -80,7 +80,7 @@ returns c =
     let formed : WellFormed (version_of c.args.bytes.now) (record_at c.args.bytes.now c.args.k) = (let a = c.args in
     let l = a.bytes.now in
     let b = version-accepted 2 l counted.accepted in
-    form-formed l (record { each = λ n. omega (arith, c.shared_slice_known-1.given n) }) (accepted-form l b.1) a.k below) in
+    form-formed l (record { each = λ n. omega (arith, c.type_inv.bytes n) }) (accepted-form l b.1) a.k below) in
     let found : c.record_at-r.result ≡ record_at c.args.bytes.now c.args.k = (let a = c.args in
     let l = a.bytes.now in
     let b = version-accepted 2 l counted.accepted in
