@@ -31,6 +31,7 @@ abbrev nowhere : Fault → Spot
 nowhere f = record { code = f.code; number = f.number; line = 0; word = 0 }
 
 pub refused-unplaced : (o : Codes Fault) (f : Fault) → Refused o f → Refused (unplaced o) (nowhere f)
+refused-unplaced no_more f r = elim r [ ]
 refused-unplaced (code g F o) f (inl r) = inl (r.0, ap nowhere r.1)
 refused-unplaced (code g F o) f (inr r) = inr (r.0, refused-unplaced o f r.1)
 

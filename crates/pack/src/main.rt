@@ -21,6 +21,7 @@ fn settle<P: Print>(to: &P, room: &[u8], read: Filled) -> io::Result<()> {
     answer::answer(to, &room[..have])
 }
 
+#[tactic(none)]
 fn main(rt: HostRuntime) -> io::Result<()> {
     // one byte more than a text may have tells a longer one
     let mut room = [0u8; 1048577];

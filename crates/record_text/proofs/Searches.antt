@@ -15,7 +15,7 @@ use Prim.Native.Nat.{ℕ, suc, ◌<◌}
 use native.Mathlib.Omega.{arith}
 use Rattle.element.proofs.Refusals.{refused-then, past-then, accepted-then}
 use Rattle.element.specs.Refusals.{Codes, code, ◌then◌, Refused, Accepted}
-use Rattle.mesh_text.specs.Rows.{first, rest, is_nil, lines, line, words, is_end}
+use Rattle.mesh_text.specs.Rows.{first, rest, is_nil, lines, line, is_end}
 use Rattle.mesh_text.proofs.Rows.{parts-two}
 use Rattle.record_text.specs.declared.Test.{Test}
 use Rattle.record_text.specs.declared.Test.TheVariants.{Form, Whole}
