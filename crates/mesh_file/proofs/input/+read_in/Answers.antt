@@ -2,6 +2,7 @@
 use mathlib.Core.Path.{◌≡◌, sym, ◌∙◌}
 use Prim.Native.Nat.{ℕ, ◌<◌, ◌≤◌}
 use native.Mathlib.Omega.{arith}
+use borrow.Author.Rules.{rules}
 use lib.ListN.{length-replicate}
 use Rattle.mesh_file.proofs.input.+read_in.Goals as goal
 
@@ -12,6 +13,12 @@ fewer n m none one h = omega (arith, none, one, h)
 pub slice_bounds-fill-end : goal.slice_bounds-fill-end
 slice_bounds-fill-end g t c = sym (length-replicate {A = ℕ} 1048576 0)
 
+least : (n : ℕ) → 0 ≤ n
+least n = omega arith
+
+pub fill-read-requires : goal.fill-read-requires
+fill-read-requires g t c = least _
+
 pub slice_bounds-settle-end : goal.slice_bounds-settle-end
 slice_bounds-settle-end g t c = sym (c.fill-read.auto.room ∙ length-replicate {A = ℕ} 1048576 0)
 
@@ -20,4 +27,4 @@ slice_bounds-read_in-end g t c = sym (c.fill-read.auto.room ∙ length-replicate
 
 pub read_in-requires : goal.read_in-requires
 read_in-requires g t c κs within =
-    (rw (sym c.decreases) (fewer c.args.rooms c.in_ok-more.more c.if-rooms-eq0.false c.if-rooms-eq1.false c.in_ok-more.ensures), ?)
+    (rw (sym c.decreases) (fewer c.args.rooms c.in_ok-more.more c.if-rooms-eq0.false c.if-rooms-eq1.false c.in_ok-more.ensures), search rules)
