@@ -1,8 +1,7 @@
 -- `mesh_file::input::copy_in` meets its contract: it stays inside the room.
-use mathlib.Core.Path.{◌≡◌, refl}
+use mathlib.Core.Path.{◌≡◌}
 use Prim.Native.Nat.{◌-◌, ◌≤◌}
-use native.Mathlib.Omega.{arith}
-use lib.ListN.{length, length-set}
+use lib.ListN.{length}
 use Rattle.mesh_file.proofs.input.copy_in.Given as goal
 
 abbrev pub invariant-loop-k : goal.invariant-loop-k
