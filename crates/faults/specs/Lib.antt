@@ -1,2 +1,3 @@
 -- What the code computes on its way.
 pub mod Nodes
+pub mod Refusal

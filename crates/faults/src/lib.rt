@@ -17,7 +17,11 @@ ghost use Rattle.element.specs.Refusals.{
   six_codes,
 };
 ghost use Rattle.faults.specs.Nodes.{corner_codes};
+ghost use Rattle.faults.specs.Refusal.{code_of};
 
+pub mod refusal;
+
+use crate::refusal::Refusal;
 use points::ranged;
 
 // Whether a block holds elements of that many nodes.
@@ -110,37 +114,37 @@ fn four(coords: &[i32], a: usize, b: usize, c: usize, d: usize) -> bool
 }
 
 // Code 4 or 21, or 0, of a triangle's nodes. Each limit stands in a call, so that none is looked up for a coordinate.
-fn triangle_code(coords: &[i32], limit: u32) -> u8
+fn triangle_code(coords: &[i32], limit: u32) -> Result<(), Refusal>
     requires { (limit < 2147483648) × (5 < length coords.now) }
-    ensures { Coded (corner_codes limit (0 ∷ 1 ∷ 2 ∷ []) coords.now) result }
+    ensures { Coded (corner_codes limit (0 ∷ 1 ∷ 2 ∷ []) coords.now) (code_of result) }
 {
     if !ranged(coords, limit) {
-        return 4;
+        return Err(Refusal::Outside);
     }
     if three(coords, 0, 1, 2) {
-        return 21;
+        return Err(Refusal::Collapsed);
     }
-    0
+    Ok(())
 }
 
 // The same of a quad's nodes, whose corners are 0, 2, c and d.
-fn quad_code(coords: &[i32], c: usize, d: usize) -> u8
+fn quad_code(coords: &[i32], c: usize, d: usize) -> Result<(), Refusal>
     requires { (2 < c) × (c < d) × (2 * d + 1 < length coords.now) }
-    ensures { Coded (corner_codes 2048 (0 ∷ 2 ∷ c ∷ d ∷ []) coords.now) result }
+    ensures { Coded (corner_codes 2048 (0 ∷ 2 ∷ c ∷ d ∷ []) coords.now) (code_of result) }
 {
     if !ranged(coords, 2048) {
-        return 4;
+        return Err(Refusal::Outside);
     }
     if four(coords, 0, 2, c, d) {
-        return 21;
+        return Err(Refusal::Collapsed);
     }
-    0
+    Ok(())
 }
 
 // Code 4 or 21, or 0.
-pub fn node_code(kind: u8, coords: &[i32]) -> u8
+pub fn node_code(kind: u8, coords: &[i32]) -> Result<(), Refusal>
     requires { ¬ NotKind kind × (length coords.now ≡ 2 * kind) }
-    ensures { Coded (node_codes (kind_of kind) coords.now no_more) result }
+    ensures { Coded (node_codes (kind_of kind) coords.now no_more) (code_of result) }
 {
     if kind == 6 {
         return triangle_code(coords, 65536);
@@ -155,12 +159,12 @@ pub fn node_code(kind: u8, coords: &[i32]) -> u8
 }
 
 // Code 3, 4 or 21, or 0. A triangle's kind stands in its call, so that no loop over its coordinates is left.
-pub fn list_code(kind: u8, coords: &[i32]) -> u8
+pub fn list_code(kind: u8, coords: &[i32]) -> Result<(), Refusal>
     requires { ¬ NotKind kind }
-    ensures { Coded (element_codes kind coords.now no_more) result }
+    ensures { Coded (element_codes kind coords.now no_more) (code_of result) }
 {
     if coords.len() != 2 * (kind as usize) {
-        return 3;
+        return Err(Refusal::Length);
     }
     if kind == 6 {
         return node_code(6, coords);
@@ -169,52 +173,52 @@ pub fn list_code(kind: u8, coords: &[i32]) -> u8
 }
 
 // Code 1, 3, 4 or 21, or 0.
-pub fn element_code(kind: u8, coords: &[i32]) -> u8
-    ensures { Coded (bounds_codes kind coords.now) result }
+pub fn element_code(kind: u8, coords: &[i32]) -> Result<(), Refusal>
+    ensures { Coded (bounds_codes kind coords.now) (code_of result) }
 {
     if !known(kind) {
-        return 1;
+        return Err(Refusal::Kind);
     }
     list_code(kind, coords)
 }
 
 // Code 2, 3, 4 or 21, or 0.
-fn level_code(kind: u8, limit: u8, coords: &[i32]) -> u8
+fn level_code(kind: u8, limit: u8, coords: &[i32]) -> Result<(), Refusal>
     requires { ¬ NotKind kind }
-    ensures { Coded (level_codes kind limit coords.now) result }
+    ensures { Coded (level_codes kind limit coords.now) (code_of result) }
 {
     if greatest_level(kind) < limit {
-        return 2;
+        return Err(Refusal::Level);
     }
     list_code(kind, coords)
 }
 
 // Code 1, 2, 3, 4 or 21, or 0.
-pub fn verdict_code(kind: u8, limit: u8, coords: &[i32]) -> u8
-    ensures { Coded (verdict_codes kind limit coords.now) result }
+pub fn verdict_code(kind: u8, limit: u8, coords: &[i32]) -> Result<(), Refusal>
+    ensures { Coded (verdict_codes kind limit coords.now) (code_of result) }
 {
     if !known(kind) {
-        return 1;
+        return Err(Refusal::Kind);
     }
     level_code(kind, limit, coords)
 }
 
 // The same of an element that is to go into a block.
-pub fn stored_code(kind: u8, limit: u8, coords: &[i32]) -> u8
-    ensures { Coded (stored_codes kind limit coords.now) result }
+pub fn stored_code(kind: u8, limit: u8, coords: &[i32]) -> Result<(), Refusal>
+    ensures { Coded (stored_codes kind limit coords.now) (code_of result) }
 {
     if !stored(kind) {
-        return 1;
+        return Err(Refusal::Kind);
     }
     level_code(kind, limit, coords)
 }
 
 // The same of a six-node triangle, where no other kind is taken.
-pub fn six_code(kind: u8, limit: u8, coords: &[i32]) -> u8
-    ensures { Coded (six_codes kind limit coords.now) result }
+pub fn six_code(kind: u8, limit: u8, coords: &[i32]) -> Result<(), Refusal>
+    ensures { Coded (six_codes kind limit coords.now) (code_of result) }
 {
     if kind != 6 {
-        return 1;
+        return Err(Refusal::Kind);
     }
     level_code(kind, limit, coords)
 }
