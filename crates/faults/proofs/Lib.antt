@@ -1,3 +1,4 @@
 pub mod Limits
+pub mod Meant
 pub mod Pairs
 pub mod Refusals
