@@ -8,6 +8,7 @@ ghost use Rattle.element.specs.Bounds.{Least, Greatest};
 ghost use Rattle.control.specs.Calls.{controlled, Handed, ControlValues, BoundsOf, SolverBounds};
 
 use faults::element_code;
+use faults::kind::Kind;
 use faults::refusal::Refusal;
 
 // The code, the record number, and the number of values at the buffer's start.
@@ -59,16 +60,12 @@ fn hand(out: &mut [i64], values: &[i64]) -> Controlled
 pub fn control_values(kind: u8, coords: &[i32], out: &mut [i64]) -> Controlled
     ensures { ControlValues kind coords.now out.old result out.new }
 {
-    if let Err(refusal) = element_code(kind, coords) {
-        return answer(refusal.number(), 0);
+    match element_code(kind, coords) {
+        Ok(Kind::Six) => hand(out, &triangle::values(coords)),
+        Ok(Kind::Ten) => hand(out, &cubic::values(coords)),
+        Ok(k) => hand(out, &quad::values(coords, k == Kind::Eight)),
+        Err(refusal) => answer(refusal.number(), 0),
     }
-    if kind == 6 {
-        return hand(out, &triangle::values(coords));
-    }
-    if kind == 10 {
-        return hand(out, &cubic::values(coords));
-    }
-    hand(out, &quad::values(coords, kind == 8))
 }
 
 // The least and the greatest of some numbers.
@@ -103,15 +100,9 @@ fn bounds_of(c: &[i64]) -> Bounds
 pub fn solver_bounds(kind: u8, coords: &[i32]) -> Result<Bounds, Refusal>
     ensures { SolverBounds kind coords.now result }
 {
-    element_code(kind, coords)?;
-    if kind == 6 {
-        let values = triangle::values(coords);
-        return Ok(bounds_of(&values));
+    match element_code(kind, coords)? {
+        Kind::Six => Ok(bounds_of(&triangle::values(coords))),
+        Kind::Ten => Ok(bounds_of(&cubic::values(coords))),
+        k => Ok(bounds_of(&quad::values(coords, k == Kind::Eight))),
     }
-    if kind == 10 {
-        let values = cubic::values(coords);
-        return Ok(bounds_of(&values));
-    }
-    let values = quad::values(coords, kind == 8);
-    Ok(bounds_of(&values))
 }

@@ -1,9 +1,10 @@
 -- The kinds as the code has them.
 --   meant-kind : a kind is that of its number of nodes
+--   meant-of   : the same, of a number that it has
 --   a_kind     : and there is one of that many
 --   known      : what is asked of a kind's nodes, where 1 stands before it
 -- Assumes nothing.
-use Rattle.std.proofs.Common.{◌≡◌, refl, subst, ℕ}
+use Rattle.std.proofs.Common.{◌≡◌, refl, sym, ap, ◌∙◌, subst, ℕ}
 use Rattle.element.specs.Kinds.{kind_of, NotKind}
 use Rattle.element.specs.Refusals.{Codes, code, Coded}
 use Rattle.element.proofs.Refusals.{coded-past}
@@ -16,6 +17,9 @@ meant-kind Six = refl
 meant-kind Eight = refl
 meant-kind Nine = refl
 meant-kind Ten = refl
+
+pub meant-of : (k : Kind) {n : ℕ} → nodes_of k ≡ n → kind_of n ≡ meant k
+meant-of k e = ap kind_of (sym e) ∙ meant-kind k
 
 pub a_kind : (k : Kind) → ¬ NotKind (nodes_of k)
 a_kind Six f = f.0.0 refl

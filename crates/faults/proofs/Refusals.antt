@@ -71,6 +71,6 @@ number-some NoneValid = λ h. omega (arith, h)
 number-some OffGrid = λ h. omega (arith, h)
 number-some Undecided = λ h. omega (arith, h)
 
-pub passed : (r : Result Unit Refusal) → ((e : Refusal) → ¬ (r ≡ Err e)) → code_of r ≡ 0
+pub passed : {A : Type 0} (r : Result A Refusal) → ((e : Refusal) → ¬ (r ≡ Err e)) → code_of r ≡ 0
 passed (Ok _) f = refl
 passed (Err e) f = absurd (f e refl)

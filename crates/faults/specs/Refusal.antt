@@ -32,6 +32,6 @@ number_of NoneValid = 22
 number_of OffGrid = 23
 number_of Undecided = 24
 
-abbrev pub code_of : Result Unit Refusal → ℕ
+abbrev pub code_of : {A : Type 0} → Result A Refusal → ℕ
 code_of (Ok _) = 0
 code_of (Err e) = number_of e

@@ -2,7 +2,7 @@
 // corners at one place (21).
 #![tactic(auto)]
 
-ghost use Rattle.std.specs.Prelude.{◌≡◌, true, false, [], ◌∷◌, ◌+◌, ◌*◌, ◌<◌, length};
+ghost use Rattle.std.specs.Prelude.{◌≡◌, IfOk, true, false, [], ◌∷◌, ◌+◌, ◌*◌, ◌<◌, length};
 ghost use Rattle.element.specs.Kinds.{NotStored, kind_of, greatest_level};
 ghost use Rattle.element.specs.Corners.{SamePlace, SameTwo};
 ghost use Rattle.element.specs.Refusals.{
@@ -159,18 +159,24 @@ impl Kind {
     }
 }
 
-// Refusal 1, 3, 4 or 21, or none.
-pub fn element_code(kind: u8, coords: &[i32]) -> Result<(), Refusal>
-    ensures { Coded (bounds_codes kind coords.now) (code_of result) }
+// The kind of an element, or refusal 1, 3, 4 or 21.
+pub fn element_code(kind: u8, coords: &[i32]) -> Result<Kind, Refusal>
+    ensures code { Coded (bounds_codes kind coords.now) (code_of result) }
+    ensures kind { IfOk result (λ k. nodes_of k ≡ kind) }
 {
-    Kind::try_from(kind)?.list_code(coords)
+    let k = Kind::try_from(kind)?;
+    k.list_code(coords)?;
+    Ok(k)
 }
 
-// Refusal 1, 2, 3, 4 or 21, or none.
-pub fn verdict_code(kind: u8, limit: u8, coords: &[i32]) -> Result<(), Refusal>
-    ensures { Coded (verdict_codes kind limit coords.now) (code_of result) }
+// The kind of an element, or refusal 1, 2, 3, 4 or 21.
+pub fn verdict_code(kind: u8, limit: u8, coords: &[i32]) -> Result<Kind, Refusal>
+    ensures code { Coded (verdict_codes kind limit coords.now) (code_of result) }
+    ensures kind { IfOk result (λ k. nodes_of k ≡ kind) }
 {
-    Kind::try_from(kind)?.level_code(limit, coords)
+    let k = Kind::try_from(kind)?;
+    k.level_code(limit, coords)?;
+    Ok(k)
 }
 
 // The same of an element that is to go into a block.

@@ -2,7 +2,6 @@
 --   told-bad, told-valid, told-open : the answer that a walk shows, by the tests of the code
 --   accepted-limit, accepted-bounds : what an accepted call tells of its limit and its element
 --   refuses, succeeds : a refusal and a success
---   triangle-accepted, cubic-accepted, quad-accepted : what the tests of the code tell of the kind
 --   triangle-room, triangle-walked : the walk of a triangle with six nodes
 --   cubic-room, cubic-walked : with ten
 --   quad-room, quad-walked : a quad's walk
@@ -24,9 +23,7 @@ use Rattle.element.specs.Cubic.{values10}
 use Rattle.element.specs.Control.{values6, control_values}
 use Rattle.element.specs.Origin.{Inside}
 use Rattle.element.specs.Refusals.{Accepted, Coded, bounds_codes, verdict_codes}
-use Rattle.element.proofs.Numbers.{kind-six, kind-ten, kind-quad}
 use Rattle.element.proofs.Sizes.{values-size}
-use Rattle.faults.proofs.Limits.{level-quad, accepted-inside}
 use Rattle.quad.specs.Points.{quad_kind}
 use Rattle.judge.specs.Verdict.{Answer, is_valid, is_invalid, is_undecided}
 use Rattle.judge.specs.Elements.{subject}
@@ -90,19 +87,6 @@ module _ (n l : ℕ) (xs : List ℤ) where
       tells-verdict (verdict_codes n l xs) (subject (kind_of n) xs) l (answer l (walk_of (kind_of n) l (control_values (kind_of n) xs))) a
       (walk-verdict (kind_of n) xs l)
       (g ∙ ap (λ (v : Walk). given (answer l v)) (f ∙ ap (λ (k : Kind). walk_of k l (control_values k xs)) (sym e)))
-
-  -- ---- what the tests of the code tell of the kind
-  pub triangle-accepted : n ≡ 6 → Accepted (verdict_codes n l xs) → (l ≤ 10) × Inside six xs
-  triangle-accepted e a =
-      (rw (kind-six n e) at (accepted-limit a), rw (kind-six n e) at (accepted-inside n xs (accepted-bounds a)))
-
-  pub cubic-accepted : n ≡ 10 → Accepted (verdict_codes n l xs) → (l ≤ 5) × Inside ten xs
-  cubic-accepted e a =
-      (rw (kind-ten n e) at (accepted-limit a), rw (kind-ten n e) at (accepted-inside n xs (accepted-bounds a)))
-
-  pub quad-accepted : ¬ (n ≡ 6) → ¬ (n ≡ 10) → Accepted (verdict_codes n l xs) → (l ≤ 4) × Inside (quad_kind (eqb n 8)) xs
-  quad-accepted h k a =
-      (rw (sym (level-quad n h k)) at (accepted-limit a), rw (kind-quad n h k) at (accepted-inside n xs (accepted-bounds a)))
 
 -- ---- a triangle's walk
 triangle-small : (xs : List ℤ) → Inside six xs → Each 4398046511104 (control_values six xs)

@@ -2,14 +2,16 @@
 #![tactic(auto)]
 
 ghost use Rattle.std.specs.Prelude.{◌≡◌, ◌≤◌};
-ghost use Rattle.element.specs.Kinds.{six, ten};
+ghost use Rattle.element.specs.Kinds.{six, ten, greatest_level};
 ghost use Rattle.element.specs.Control.{control_values};
 ghost use Rattle.element.specs.Origin.{Inside};
+ghost use Rattle.faults.specs.Kinds.{meant};
 ghost use Rattle.quad.specs.Points.{quad_kind};
 ghost use Rattle.walks.specs.Walk as walks;
 ghost use Rattle.walks.specs.Elements.{walk_of};
 ghost use Rattle.verdict.specs.Calls.{VerdictOf, given, says_valid, refusal};
 
+use faults::kind::Kind;
 use faults::verdict_code;
 use steps::Walk;
 
@@ -132,19 +134,25 @@ fn walk_quad(coords: &[i32], eight: bool, limit: u32) -> Walk
     quad_walk::walk_u(&c, 2 * limit, 0, limit, 0, 0)
 }
 
+// The walk of an element of a kind.
+fn walk(kind: Kind, coords: &[i32], limit: u32) -> Walk
+    requires { (limit ≤ greatest_level (meant kind)) × Inside (meant kind) coords.now }
+    ensures { result ≡ walk_of (meant kind) limit (control_values (meant kind) coords.now) }
+{
+    match kind {
+        Kind::Six => walk_triangle(coords, limit),
+        Kind::Ten => walk_cubic(coords, limit),
+        Kind::Eight | Kind::Nine => walk_quad(coords, kind == Kind::Eight, limit),
+    }
+}
+
 // The verdict on an element, under a level limit.
 pub fn verdict(kind: u8, limit: u8, coords: &[i32]) -> Judged
     ensures { VerdictOf kind limit coords.now result }
 {
-    if let Err(refusal) = verdict_code(kind, limit, coords) {
-        return refused(refusal.number());
-    }
     let levels = limit as u32;
-    if kind == 6 {
-        return told(walk_triangle(coords, levels), levels);
+    match verdict_code(kind, limit, coords) {
+        Ok(kind) => told(walk(kind, coords, levels), levels),
+        Err(refusal) => refused(refusal.number()),
     }
-    if kind == 10 {
-        return told(walk_cubic(coords, levels), levels);
-    }
-    told(walk_quad(coords, kind == 8, levels), levels)
 }

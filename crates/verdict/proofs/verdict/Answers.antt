@@ -1,47 +1,28 @@
 -- `verdict` meets its contract: a refusal by the first fault, and else what the walk of the kind shows. Assumes nothing.
-use mathlib.Core.Path.{◌∙◌, ap}
+use Rattle.std.proofs.Common.{refl, ◌∙◌, ap}
 use Rattle.element.proofs.Refusals.{coded_none}
-use Rattle.element.proofs.Numbers.{kind-six, kind-ten, kind-quad}
-use Rattle.faults.proofs.Refusals.{number-some, passed}
+use Rattle.faults.proofs.Limits.{accepted-inside}
+use Rattle.faults.proofs.Meant.{meant-of}
+use Rattle.faults.proofs.Refusals.{number-some}
 use Rattle.verdict.specs.Calls.{refusal}
-use Rattle.verdict.proofs.Answers.{triangle-accepted, cubic-accepted, quad-accepted, refuses, succeeds}
+use Rattle.verdict.proofs.Answers.{accepted-limit, accepted-bounds, refuses, succeeds}
 use Rattle.verdict.proofs.verdict.Goals as goal
+
+pub walk-requires : goal.walk-requires
+walk-requires c =
+    let a = c.args in
+    let ok = coded_none c.in-Ok.ensures.code tt refl in
+    let k = meant-of c.in-Ok.kind c.in-Ok.ensures.kind in
+    (rw k at (accepted-limit a.kind a.limit a.coords.now ok), rw k at (accepted-inside a.kind a.coords.now (accepted-bounds a.kind a.limit a.coords.now ok)))
+
+pub returns-in-Ok : goal.returns-in-Ok
+returns-in-Ok c =
+    let a = c.args in
+    succeeds a.kind a.limit a.coords.now (coded_none c.in-Ok.ensures.code tt refl)
+    (meant-of c.in-Ok.kind c.in-Ok.ensures.kind) c.walk.ensures c.told.ensures
 
 pub returns-in-Err : goal.returns-in-Err
 returns-in-Err c =
     let a = c.args in
-    refuses a.kind a.limit a.coords.now c.in-Err.ensures (number-some c.in-Err.refusal)
+    refuses a.kind a.limit a.coords.now c.in-Err.ensures.code (number-some c.in-Err.refusal)
     (c.refused.ensures ∙ ap refusal c.number.ensures)
-
-pub walk_triangle-requires : goal.walk_triangle-requires
-walk_triangle-requires c =
-    let a = c.args in
-    triangle-accepted a.kind a.limit a.coords.now c.if-kind-eq6.true (coded_none c.verdict_code.ensures tt (passed _ c.in_default.not-Err))
-
-pub returns-then-kind-eq6 : goal.returns-then-kind-eq6
-returns-then-kind-eq6 c =
-    let a = c.args in
-    succeeds a.kind a.limit a.coords.now (coded_none c.verdict_code.ensures tt (passed _ c.in_default.not-Err))
-    (kind-six a.kind c.if-kind-eq6.true) c.walk_triangle.ensures c.told.ensures
-
-pub walk_cubic-requires : goal.walk_cubic-requires
-walk_cubic-requires c =
-    let a = c.args in
-    cubic-accepted a.kind a.limit a.coords.now c.if-kind-eq10.true (coded_none c.verdict_code.ensures tt (passed _ c.in_default.not-Err))
-
-pub returns-then-kind-eq10 : goal.returns-then-kind-eq10
-returns-then-kind-eq10 c =
-    let a = c.args in
-    succeeds a.kind a.limit a.coords.now (coded_none c.verdict_code.ensures tt (passed _ c.in_default.not-Err))
-    (kind-ten a.kind c.if-kind-eq10.true) c.walk_cubic.ensures c.told-then-kind-eq10.ensures
-
-pub walk_quad-requires : goal.walk_quad-requires
-walk_quad-requires c =
-    let a = c.args in
-    quad-accepted a.kind a.limit a.coords.now c.if-kind-eq6.false c.if-kind-eq10.false (coded_none c.verdict_code.ensures tt (passed _ c.in_default.not-Err))
-
-pub returns : goal.returns
-returns c =
-    let a = c.args in
-    succeeds a.kind a.limit a.coords.now (coded_none c.verdict_code.ensures tt (passed _ c.in_default.not-Err))
-    (kind-quad a.kind c.if-kind-eq6.false c.if-kind-eq10.false) c.walk_quad.ensures c.told-2.ensures
