@@ -1,5 +1,5 @@
 -- The answers of the calls, case by case of the code.
---   six-values, ten-values, quad-values : the values of the kind that the tests of the code tell
+--   kind-inside, kind-values : what an accepted element is, and its values, by the kind that the code has
 --   refuses, handed : of `control_values`: a refusal by the element; one by the buffer, or a success
 --   values-many, values-small : there are control values, and f64 holds them
 --   bounds-refused, bounds-told : of `solver_bounds`: a refusal and a success
@@ -8,21 +8,22 @@ use mathlib.Core.Path.{◌≡◌, refl, sym, ◌∙◌, ap, subst}
 use mathlib.Core.List.{List, ◌++◌}
 use mathlib.Core.Logic.{inl, inr}
 use Prim.Native.Nat.{ℕ, ◌^◌, ◌≤◌, ◌<◌}
-use lib.Dec.{eqb, lit≤, lit<}
+use lib.Dec.{lit≤, lit<}
 use lib.IntN.{ℤ}
 use lib.ListN.{length, drop}
 use Rattle.algebra.specs.Within.{Each}
 use Rattle.algebra.proofs.Within.{each-≤, each-as}
 use Rattle.element.specs.Kinds.{Kind, six, eight, nine, ten, kind_of, value_count, size_limit}
-use Rattle.element.specs.Cubic.{values10}
-use Rattle.element.specs.Control.{values6, control_values}
+use Rattle.element.specs.Control.{control_values}
 use Rattle.element.specs.Refusals.{Refused, Accepted, Coded, bounds_codes, control_codes}
-use Rattle.element.proofs.Numbers.{kind-six, kind-ten, kind-quad}
 use Rattle.element.proofs.Values.{values_length}
 use Rattle.element.proofs.Sizes.{values-size}
 use Rattle.element.proofs.Refusals.{coded-some}
+use Rattle.element.specs.Origin.{Inside}
+use Rattle.faults.specs.declared.kind.Kind.{Kind as OurKind}
+use Rattle.faults.specs.Kinds.{nodes_of, meant}
 use Rattle.faults.proofs.Limits.{accepted-inside}
-use Rattle.quad.specs.Points.{quad_kind}
+use Rattle.faults.proofs.Meant.{meant-of}
 use Rattle.control.specs.Calls.{controlled, Handed, ControlValues, BoundsOf, SolverBounds}
 use Rattle.control.specs.declared.Controlled.{Controlled}
 use Rattle.control.specs.declared.Bounds.{Bounds}
@@ -31,16 +32,11 @@ use Rattle.faults.specs.Refusal.{number_of}
 use Rattle.faults.proofs.Refusals.{number-some}
 use Rattle.std.specs.Prelude.{Ok, Err}
 
-pub six-values : (n : ℕ) (xs : List ℤ) → n ≡ 6 → values6 xs ≡ control_values (kind_of n) xs
-unfolding control_values
-six-values n xs e = rw (kind-six n e) refl
+pub kind-inside : (k : OurKind) {n : ℕ} (xs : List ℤ) → nodes_of k ≡ n → Accepted (bounds_codes n xs) → Inside (meant k) xs
+kind-inside k xs e a = rw (meant-of k e) at (accepted-inside _ xs a)
 
-pub ten-values : (n : ℕ) (xs : List ℤ) → n ≡ 10 → values10 xs ≡ control_values (kind_of n) xs
-unfolding control_values
-ten-values n xs e = rw (kind-ten n e) refl
-
-pub quad-values : (n : ℕ) (xs : List ℤ) → ¬ (n ≡ 6) → ¬ (n ≡ 10) → control_values (quad_kind (eqb n 8)) xs ≡ control_values (kind_of n) xs
-quad-values n xs h k = rw (kind-quad n h k) refl
+pub kind-values : (k : OurKind) {n : ℕ} (xs : List ℤ) {v : List ℤ} → nodes_of k ≡ n → v ≡ control_values (meant k) xs → v ≡ control_values (kind_of n) xs
+kind-values k xs e f = f ∙ ap (λ q. control_values q xs) (sym (meant-of k e))
 
 -- the order of `control_values` goes on where that of the bounds ends
 module _ (n : ℕ) (xs before : List ℤ) where

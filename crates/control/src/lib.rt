@@ -63,7 +63,8 @@ pub fn control_values(kind: u8, coords: &[i32], out: &mut [i64]) -> Controlled
     match element_code(kind, coords) {
         Ok(Kind::Six) => hand(out, &triangle::values(coords)),
         Ok(Kind::Ten) => hand(out, &cubic::values(coords)),
-        Ok(k) => hand(out, &quad::values(coords, k == Kind::Eight)),
+        Ok(Kind::Eight) => hand(out, &quad::values(coords, true)),
+        Ok(Kind::Nine) => hand(out, &quad::values(coords, false)),
         Err(refusal) => answer(refusal.number(), 0),
     }
 }
@@ -103,6 +104,7 @@ pub fn solver_bounds(kind: u8, coords: &[i32]) -> Result<Bounds, Refusal>
     match element_code(kind, coords)? {
         Kind::Six => Ok(bounds_of(&triangle::values(coords))),
         Kind::Ten => Ok(bounds_of(&cubic::values(coords))),
-        k => Ok(bounds_of(&quad::values(coords, k == Kind::Eight))),
+        Kind::Eight => Ok(bounds_of(&quad::values(coords, true))),
+        Kind::Nine => Ok(bounds_of(&quad::values(coords, false))),
     }
 }
