@@ -113,7 +113,7 @@ fn walk_triangle(coords: &[i32], limit: u32) -> Walk
     ensures { result ≡ walk_of six limit (control_values six coords.now) }
 {
     let c = triangle::values(coords);
-    triangle_walk::walk_cell(c, limit, 0, limit, 0, 0, true)
+    triangle_walk::walk_cell(&c, limit, 0, limit, 0, 0, true)
 }
 
 // The walk of a ten-node triangle.
