@@ -51,7 +51,7 @@ cell-returns t c =
 
 pub quarters-quarter-requires : goal.quarters-quarter-requires
 quarters-quarter-requires t c =
-    let a = c.args in let g = c.if-i-eq4.false in
+    let a = c.args in
     (omega (arith, c.requires.0), cut-room (growth_by a.triangle) a.left (values_by a.triangle a.c) c.requires.1)
 
 pub quarters-cell-requires : goal.quarters-cell-requires
@@ -63,19 +63,19 @@ quarters-cell-requires t c =
 
 pub quarters-quarters-requires : goal.quarters-quarters-requires
 quarters-quarters-requires t c =
-    let a = c.args in let g = c.if-i-eq4.false in
+    let a = c.args in
     let h = c.in_ok-next.ensures in
     (omega (arith, c.decreases, c.requires.0), (omega (arith, c.requires.0), c.requires.1, h.0))
 
 pub quarters-returns : goal.quarters-returns
 quarters-returns t c =
-    let a = c.args in let g = c.if-i-eq4.false in
+    let a = c.args in
     one_more (shape_by a.triangle) a.left (values_by a.triangle a.c) a.sheet.now a.at a.i c.in_ok-next.next c.quarters.result (omega (arith, c.requires.0)) c.quarter.ensures
     c.in_ok-next.ensures c.quarters.ensures
 
 pub quarters-returns-in_err-next : goal.quarters-returns-in_err-next
 quarters-returns-in_err-next t c =
-    let a = c.args in let g = c.if-i-eq4.false in
+    let a = c.args in
     rw c.from_residual.ensures
     (one-failed (shape_by a.triangle) a.left (values_by a.triangle a.c) a.sheet.now a.at a.i (omega (arith, c.requires.0)) c.quarter.ensures
     c.in_err-next.ensures)
