@@ -1,7 +1,7 @@
 // What a walk over cells answers, and the steps that both walks take with it.
 #![tactic(auto)]
 
-ghost use Rattle.std.specs.Prelude.{◌≡◌, ◌+◌, ◌<◌, max};
+ghost use Rattle.std.specs.Prelude.{◌≡◌, ◌+◌, ◌<◌};
 ghost use Rattle.corners.specs.First.{nothing};
 ghost use Rattle.steps.specs.Steps as steps;
 
@@ -39,15 +39,6 @@ pub fn lowered(stop: u32, w: Walk) -> u32
     stop
 }
 
-fn deeper(a: u32, b: u32) -> u32
-    ensures { result ≡ max a b }
-{
-    if a < b {
-        return b;
-    }
-    a
-}
-
 // Two walks as one.
 pub fn merge(a: Walk, b: Walk) -> Walk
     requires cells { a.cells + b.cells < 4294967296 }
@@ -57,7 +48,7 @@ pub fn merge(a: Walk, b: Walk) -> Walk
     let p = a.best;
     let q = b.best;
     let best = better(p, q);
-    let deep = deeper(a.deep, b.deep);
+    let deep = a.deep.max(b.deep);
     let cells = a.cells + b.cells;
     let failing = a.failing + b.failing;
     Walk {
@@ -75,7 +66,7 @@ pub fn kept(w: Walk, level: u32) -> Walk
     ensures { result ≡ steps.merge w (steps.leaf level nothing 0) }
 {
     let best = w.best;
-    let deep = deeper(w.deep, level);
+    let deep = w.deep.max(level);
     let cells = w.cells + 1;
     Walk {
         best: best,

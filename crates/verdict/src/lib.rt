@@ -16,7 +16,7 @@ use faults::verdict_code;
 use steps::Walk;
 
 // The word of a verdict; nothing where the call is refused.
-#[derive(Clone, Copy)]
+#[derive(Clone, Copy, PartialEq, Eq)]
 pub enum Word {
     Nothing,
     Valid,
@@ -41,12 +41,7 @@ pub struct Judged {
 pub fn is_valid(word: Word) -> bool
     ensures { result ≡ says_valid word }
 {
-    match word {
-        Word::Nothing => false,
-        Word::Valid => true,
-        Word::Invalid => false,
-        Word::Undecided => false,
-    }
+    word == Word::Valid
 }
 
 // The answer of a refused call.

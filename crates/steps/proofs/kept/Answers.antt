@@ -4,4 +4,4 @@ use Rattle.steps.proofs.Fields.{walk-≡, stays}
 use Rattle.steps.proofs.kept.Goals as goal
 
 pub returns : goal.returns
-returns c = rw (N.add-zero) (walk-≡ (stays c.args.w.best c.requires.plain) c.deeper-deep.ensures)
+returns c = rw (N.add-zero) (walk-≡ (stays c.args.w.best c.requires.plain) c.max-deep.ensures)
