@@ -12,6 +12,7 @@ use faults::kind::Kind;
 use faults::refusal::Refusal;
 
 // The code, the record number, and the number of values at the buffer's start.
+// stays (1): 01 gives the answer these fields (`control/specs/Calls: NoValues`, `control/proofs/Outcomes: control-values-unique`).
 #[derive(Clone, Copy)]
 pub struct Controlled {
     pub code: u8,

@@ -7,6 +7,7 @@ ghost use Rattle.corners.specs.First as first;
 
 // A bad grid point of a level and the scaled J there, or none. The value stands first and the flag last, so that a copy of the unused bytes
 // behind the flag crosses no other field.
+// stays (1): `walks/proofs/Found: walk-best`, `steps/specs/Steps: Plain, lowered` and the law of walks hold its fields, `bad` with them.
 #[derive(Clone, Copy)]
 pub struct First {
     pub value: i64,

@@ -10,6 +10,7 @@ ghost use Rattle.cubic_cuts.specs.Cells.{values2, values3, values4, degree2, deg
 ghost use Rattle.cubic_cuts.specs.Cells as cells;
 
 // Two values of a line.
+// stays (2): a line of N values leans by one of N - 1, and a const argument can't be computed; so do the forms of degree 2, 3 and 4.
 #[derive(Clone, Copy)]
 pub struct Line2 {
     pub a: i64,

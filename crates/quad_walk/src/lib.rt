@@ -1,5 +1,6 @@
 // The walk over the cells of a quad (01: "A quad cell is halved along u and each half along v"). A half is not a cell: it is
 // never tested.
+// stays (2): the walk of triangles cuts a cell in four; this one halves it twice, tests no half, and has another chart.
 #![tactic(auto)]
 
 ghost use Rattle.std.specs.Prelude.{◌≡◌, false, ◌+◌, ◌*◌, ◌/◌};

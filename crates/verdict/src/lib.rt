@@ -16,6 +16,7 @@ use faults::verdict_code;
 use steps::Walk;
 
 // The word of a verdict; nothing where the call is refused.
+// stays (1): `Nothing` is the word of a refused call's answer (`verdict/specs/Calls: refusal`).
 #[derive(Clone, Copy, PartialEq, Eq)]
 pub enum Word {
     Nothing,
@@ -25,6 +26,7 @@ pub enum Word {
 }
 
 // The code, the record number, and the verdict.
+// stays (1): 01 gives the answer these fields, and a refusal "zero in all other fields" (`verdict/specs/Calls: NoVerdict, refusal`).
 #[derive(Clone, Copy)]
 pub struct Judged {
     pub code: u8,
