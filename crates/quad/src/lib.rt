@@ -11,7 +11,7 @@ ghost use Rattle.points.specs.Points.{Ten};
 ghost use Rattle.quad.specs.Points as spec;
 
 use crate::sum::combine;
-use points::{coordinates, pick};
+use points::{Net, coordinates, pick};
 
 // Where the nodes have a gap: eight nodes omit 11.
 fn gap(eight: bool) -> usize
@@ -84,5 +84,5 @@ pub fn values(xs: &[i32], eight: bool) -> [i64; 16]
     let g = gap(eight);
     let x = points9(&coordinates(xs, g, 0), eight);
     let y = points9(&coordinates(xs, g, 1), eight);
-    combine(&x, &y)
+    combine(&Net { x, y })
 }

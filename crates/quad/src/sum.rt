@@ -9,10 +9,10 @@ ghost use Rattle.forms.specs.Binomials as binomials;
 ghost use Rattle.element.specs.Plane as plane;
 ghost use Rattle.element.specs.Plane.{◌-ᵥ◌};
 ghost use Rattle.element.specs.Control as control;
-ghost use Rattle.points.specs.Points.{Ten, point};
+ghost use Rattle.points.specs.Points.{point};
 ghost use Rattle.quad.specs.Points as spec;
 
-use points::step;
+use points::Net;
 
 // C(n, k), for n up to 3: between its ones such a row of binomials has n itself.
 fn choose(n: usize, k: usize) -> usize
@@ -36,36 +36,30 @@ struct Vector {
     y: i64,
 }
 
-// The point b minus the point a, of the points with the coordinates x and y.
-fn difference(x: &[i64; 10], y: &[i64; 10], a: usize, b: usize) -> Vector
-    requires first { Ten 786432 x.now }
-    requires second { Ten 786432 y.now }
-    ensures { spec.vec result ≡ point x.now y.now b -ᵥ point x.now y.now a }
+// The point b minus the point a, of the net r.
+fn difference(r: &Net, a: usize, b: usize) -> Vector
+    ensures { spec.vec result ≡ point r.now.x r.now.y b -ᵥ point r.now.x r.now.y a }
 {
     Vector {
-        x: step(x, a, b),
-        y: step(y, a, b),
+        x: r.step_x(a, b),
+        y: r.step_y(a, b),
     }
 }
 
 // α(i, j) = R(i+1, j) - R(i, j).
-fn alpha(x: &[i64; 10], y: &[i64; 10], i: usize, j: usize) -> Vector
-    requires first { Ten 786432 x.now }
-    requires second { Ten 786432 y.now }
-    requires place { (i ≤ 1) × (j ≤ 2) }
-    ensures { spec.vec result ≡ control.α (spec.grid x.now y.now) i j }
+fn alpha(r: &Net, i: usize, j: usize) -> Vector
+    requires { (i ≤ 1) × (j ≤ 2) }
+    ensures { spec.vec result ≡ control.α (spec.grid r.now.x r.now.y) i j }
 {
-    difference(x, y, i + 3 * j, i + 1 + 3 * j)
+    difference(r, i + 3 * j, i + 1 + 3 * j)
 }
 
 // β(i, j) = R(i, j+1) - R(i, j).
-fn beta(x: &[i64; 10], y: &[i64; 10], i: usize, j: usize) -> Vector
-    requires first { Ten 786432 x.now }
-    requires second { Ten 786432 y.now }
-    requires place { (i ≤ 2) × (j ≤ 1) }
-    ensures { spec.vec result ≡ control.β (spec.grid x.now y.now) i j }
+fn beta(r: &Net, i: usize, j: usize) -> Vector
+    requires { (i ≤ 2) × (j ≤ 1) }
+    ensures { spec.vec result ≡ control.β (spec.grid r.now.x r.now.y) i j }
 {
-    difference(x, y, i + 3 * j, i + 3 * (j + 1))
+    difference(r, i + 3 * j, i + 3 * (j + 1))
 }
 
 // The determinant of two vectors.
@@ -77,28 +71,24 @@ fn det(a: Vector, b: Vector) -> i64
 }
 
 // The term C(2,i2)·C(2,j1)·det(α(i1,j1), β(i2,j2)), of value (i1+i2, j1+j2).
-fn term(x: &[i64; 10], y: &[i64; 10], i1: usize, i2: usize, j1: usize, j2: usize) -> i64
-    requires first { Ten 786432 x.now }
-    requires second { Ten 786432 y.now }
-    requires places { (i1 ≤ 1) × (i2 ≤ 2) × (j1 ≤ 2) × (j2 ≤ 1) }
-    ensures { result ≡ control.term (spec.grid x.now y.now) (i1 + i2) (j1 + j2) i1 i2 j1 j2 }
+fn term(r: &Net, i1: usize, i2: usize, j1: usize, j2: usize) -> i64
+    requires { (i1 ≤ 1) × (i2 ≤ 2) × (j1 ≤ 2) × (j2 ≤ 1) }
+    ensures { result ≡ control.term (spec.grid r.now.x r.now.y) (i1 + i2) (j1 + j2) i1 i2 j1 j2 }
 {
-    let d = det(alpha(x, y, i1, j1), beta(x, y, i2, j2));
+    let d = det(alpha(r, i1, j1), beta(r, i2, j2));
     (choose(2, i2) * choose(2, j1)) as i64 * d
 }
 
 // The sums of relation 27, (I, J) at I + 4J: over all i1, i2, j1, j2 each term is added where I = i1+i2 and J = j1+j2.
-fn sums(x: &[i64; 10], y: &[i64; 10]) -> [i64; 16]
-    requires first { Ten 786432 x.now }
-    requires second { Ten 786432 y.now }
-    ensures { result ≡ spec.sums9 x.now y.now }
+fn sums(r: &Net) -> [i64; 16]
+    ensures { result ≡ spec.sums9 r.now.x r.now.y }
 {
     let mut c = [0; 16];
     for i1 in 0..2 {
         for i2 in 0..3 {
             for j1 in 0..3 {
                 for j2 in 0..2 {
-                    c[(i1 + i2) + 4 * (j1 + j2)] += term(x, y, i1, i2, j1, j2);
+                    c[(i1 + i2) + 4 * (j1 + j2)] += term(r, i1, i2, j1, j2);
                 }
             }
         }
@@ -115,12 +105,10 @@ fn weight(i: usize, j: usize) -> i64
 }
 
 // The sixteen values, (i, j) at i + 4j: each sum times its weight.
-pub fn combine(x: &[i64; 10], y: &[i64; 10]) -> [i64; 16]
-    requires first { Ten 786432 x.now }
-    requires second { Ten 786432 y.now }
-    ensures { result ≡ spec.combine9 x.now y.now }
+pub fn combine(r: &Net) -> [i64; 16]
+    ensures { result ≡ spec.combine9 r.now.x r.now.y }
 {
-    let s = sums(x, y);
+    let s = sums(r);
     let mut c = [0; 16];
     for j in 0..4 {
         for i in 0..4 {

@@ -8,7 +8,7 @@ ghost use Rattle.element.specs.Origin.{Inside};
 ghost use Rattle.points.specs.Points.{Ten};
 ghost use Rattle.triangle.specs.Points as spec;
 
-use points::{across, coordinates, pick};
+use points::{Net, coordinates, pick};
 
 // The doubled control point of the edge from a to b with the middle m, along one coordinate.
 fn between(n: &[i64; 10], m: usize, a: usize, b: usize) -> i64
@@ -29,19 +29,17 @@ fn points6(n: &[i64; 10]) -> [i64; 10]
     [2 * n[0], 2 * n[1], 2 * n[2], q01, q12, q02, 0, 0, 0, 0]
 }
 
-// The six control values from the points along x and along y, which stand in the order Q00, Q11, Q22, Q01, Q12, Q02.
-fn combine(x: &[i64; 10], y: &[i64; 10]) -> [i64; 6]
-    requires first { Ten 786432 x.now }
-    requires second { Ten 786432 y.now }
-    ensures { result ≡ spec.combine6 x.now y.now }
+// The six control values from the control points, which stand in the order Q00, Q11, Q22, Q01, Q12, Q02.
+fn combine(p: &Net) -> [i64; 6]
+    ensures { result ≡ spec.combine6 p.now.x p.now.y }
 {
     [
-        2 * across(x, y, 0, 3, 0, 5),
-        2 * across(x, y, 3, 1, 3, 4),
-        2 * across(x, y, 5, 4, 5, 2),
-        across(x, y, 0, 3, 3, 4) + across(x, y, 3, 1, 0, 5),
-        across(x, y, 3, 1, 5, 2) + across(x, y, 5, 4, 3, 4),
-        across(x, y, 0, 3, 5, 2) + across(x, y, 5, 4, 0, 5),
+        2 * p.across(0, 3, 0, 5),
+        2 * p.across(3, 1, 3, 4),
+        2 * p.across(5, 4, 5, 2),
+        p.across(0, 3, 3, 4) + p.across(3, 1, 0, 5),
+        p.across(3, 1, 5, 2) + p.across(5, 4, 3, 4),
+        p.across(0, 3, 5, 2) + p.across(5, 4, 0, 5),
     ]
 }
 
@@ -52,5 +50,5 @@ pub fn values(xs: &[i32]) -> [i64; 6]
 {
     let x = points6(&coordinates(xs, 9, 0));
     let y = points6(&coordinates(xs, 9, 1));
-    combine(&x, &y)
+    combine(&Net { x, y })
 }

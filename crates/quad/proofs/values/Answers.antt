@@ -17,13 +17,13 @@ points9-x-requires c = rw c.coordinates.ensures (coordinates-ten (quad-first c.a
 pub points9-y-requires : goal.points9-y-requires
 points9-y-requires c = rw c.coordinates-2.ensures (coordinates-ten (quad-first c.args.eight c.requires) c.gap-g.result 1)
 
-pub combine-requires-clause-first : goal.combine-requires-clause-first
-combine-requires-clause-first c =
+pub invariant_of-combine-clause-along_x : goal.invariant_of-combine-clause-along_x
+invariant_of-combine-clause-along_x c =
     rw (c.points9-x.ensures, c.coordinates.ensures)
     (points9-ten (coordinates-ten (quad-first c.args.eight c.requires) c.gap-g.result 0) c.args.eight)
 
-pub combine-requires-clause-second : goal.combine-requires-clause-second
-combine-requires-clause-second c =
+pub invariant_of-combine-clause-along_y : goal.invariant_of-combine-clause-along_y
+invariant_of-combine-clause-along_y c =
     rw (c.points9-y.ensures, c.coordinates-2.ensures)
     (points9-ten (coordinates-ten (quad-first c.args.eight c.requires) c.gap-g.result 1) c.args.eight)
 

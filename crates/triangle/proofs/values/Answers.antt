@@ -12,11 +12,11 @@ points6-x-requires c = rw c.coordinates.ensures (coordinates-ten (inside-first c
 pub points6-y-requires : goal.points6-y-requires
 points6-y-requires c = rw c.coordinates-2.ensures (coordinates-ten (inside-first c.requires) 9 1)
 
-pub combine-requires-clause-first : goal.combine-requires-clause-first
-combine-requires-clause-first c = rw (c.points6-x.ensures, c.coordinates.ensures) (points6-ten (coordinates-ten (inside-first c.requires) 9 0))
+pub invariant_of-combine-clause-along_x : goal.invariant_of-combine-clause-along_x
+invariant_of-combine-clause-along_x c = rw (c.points6-x.ensures, c.coordinates.ensures) (points6-ten (coordinates-ten (inside-first c.requires) 9 0))
 
-pub combine-requires-clause-second : goal.combine-requires-clause-second
-combine-requires-clause-second c = rw (c.points6-y.ensures, c.coordinates-2.ensures) (points6-ten (coordinates-ten (inside-first c.requires) 9 1))
+pub invariant_of-combine-clause-along_y : goal.invariant_of-combine-clause-along_y
+invariant_of-combine-clause-along_y c = rw (c.points6-y.ensures, c.coordinates-2.ensures) (points6-ten (coordinates-ten (inside-first c.requires) 9 1))
 
 pub returns : goal.returns
 returns c =

@@ -15,9 +15,9 @@ as-far {f = f} {c = c} e p = subst (λ n. Filled 16 n f c) e p
 
 pub overflow_mul-c : goal.overflow_mul-c
 overflow_mul-c c =
-    fits (value-is c.requires.first c.requires.second c.loop-i.i c.loop-j.j (omega arith) (omega arith) c.weight.ensures c.sums-s.ensures) tt
+    fits (value-is c.args.r.now.along_x c.args.r.now.along_y c.loop-i.i c.loop-j.j (omega arith) (omega arith) c.weight.ensures c.sums-s.ensures) tt
 
 pub loop-i-preserved : goal.loop-i-preserved
 loop-i-preserved c =
     as-far (omega arith) (fill_more c.loop-i.invariant (omega arith)
-    (st (value-is c.requires.first c.requires.second c.loop-i.i c.loop-j.j (omega arith) (omega arith) c.weight.ensures c.sums-s.ensures) tt).same)
+    (st (value-is c.args.r.now.along_x c.args.r.now.along_y c.loop-i.i c.loop-j.j (omega arith) (omega arith) c.weight.ensures c.sums-s.ensures) tt).same)
