@@ -25,6 +25,16 @@ pub struct Record {
     pub coords: [i32; 18],
 }
 
+// The record of zeros.
+pub const BLANK: Record = Record {
+    id: 0,
+    kind: 0,
+    limit: 0,
+    signed: 0,
+    level: 0,
+    coords: [0; 18],
+};
+
 // The nine pairs of the record at a place.
 fn read_coords(s: &[u8], at: usize) -> [i32; 18]
     requires { at + 80 ≤ length s.now }
