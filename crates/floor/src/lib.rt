@@ -6,12 +6,14 @@ ghost use Rattle.std.specs.Prelude.{◌≡◌, ◌≤◌, pos, ◌*ℤ◌};
 ghost use Rattle.element.specs.Kinds.{six};
 ghost use Rattle.element.specs.Origin.{Inside};
 ghost use Rattle.element.specs.Refusals.{Coded};
+ghost use Rattle.faults.specs.Refusal.{code_of};
 ghost use Rattle.walks.specs.Elements.{walk_of};
 ghost use Rattle.floor.specs.Floor as floor;
 ghost use Rattle.floor.specs.Steps.{shifted_by, Room};
 ghost use Rattle.floor.specs.Calls.{floor_codes, FloorOf, ToldBy};
 
-use faults::list_code;
+use faults::kind::Kind;
+use faults::refusal::Refusal;
 use points::{across, coordinates};
 use steps::Walk;
 use verdict::{Judged, Word, verdict};
@@ -47,10 +49,8 @@ fn shifted(c: [i64; 6], less: i64) -> [i64; 6]
     ensures { result ≡ shifted_by less c }
 {
     let mut values = [0; 6];
-    let mut k = 0;
-    while k < 6 {
+    for k in 0..6 {
         values[k] = 100 * c[k] - less;
-        k += 1;
     }
     values
 }
@@ -65,39 +65,35 @@ fn walk_floor(coords: &[i32], p: u8, limit: u32) -> Walk
     triangle_walk::walk_cell(c, limit, 0, limit, 0, 0, true)
 }
 
-// Code 1, 2, 3, 4, 21, 16 or 17, or 0.
-fn floor_code(kind: u8, limit: u8, coords: &[i32], p: u8) -> u8
-    ensures { Coded (floor_codes kind limit coords.now p) result }
+// Refusal 1, 2, 3, 4, 21, 16 or 17, or none.
+fn floor_code(kind: u8, limit: u8, coords: &[i32], p: u8) -> Result<(), Refusal>
+    ensures { Coded (floor_codes kind limit coords.now p) (code_of result) }
 {
     if kind != 6 {
-        return 1;
+        return Err(Refusal::Kind);
     }
     if 7 < limit {
-        return 2;
+        return Err(Refusal::Level);
     }
-    let code = list_code(kind, coords);
-    if code != 0 {
-        return code;
-    }
+    Kind::Six.list_code(coords)?;
     if p < 1 {
-        return 16;
+        return Err(Refusal::Percentage);
     }
     if 99 < p {
-        return 16;
+        return Err(Refusal::Percentage);
     }
     if straight(coords) <= 0 {
-        return 17;
+        return Err(Refusal::Straight);
     }
-    0
+    Ok(())
 }
 
 // The verdict on a triangle with a floor of p percent on its distortion, under a level limit.
 pub fn floor_verdict(kind: u8, limit: u8, coords: &[i32], p: u8) -> Judged
     ensures { FloorOf kind limit coords.now p result }
 {
-    let code = floor_code(kind, limit, coords, p);
-    if code != 0 {
-        return verdict::refused(code);
+    if let Err(refusal) = floor_code(kind, limit, coords, p) {
+        return verdict::refused(refusal.number());
     }
     let levels = limit as u32;
     verdict::told(walk_floor(coords, p, levels), levels)

@@ -3,11 +3,12 @@
 
 ghost use Rattle.std.specs.Prelude.{◌≡◌, ◌*◌, length, take};
 ghost use Rattle.floor.specs.Calls.{ToldBy};
-ghost use Rattle.list.specs.Calls.{WritesBy, WritesList, WritesFloorList};
+ghost use Rattle.list.specs.Calls.{as_listed, WritesBy, WritesList, WritesFloorList};
 ghost use Rattle.list.specs.Steps.{sign_by, LineAt, LinesTo, WholeList};
 
-use block::{check_block, record_at};
+use block::{check, record_at};
 use endian::get_u16;
+use faults::refusal::Refusal;
 use floor::{Profile, verdict_by};
 use lines::{first_line, record_line, refused_line};
 use signs::{limit_of, used_numbers};
@@ -57,10 +58,8 @@ fn lines_to(out: &mut [u8], from: usize, bytes: &[u8], count: u32, by: Profile) 
     ensures { LinesTo by bytes.now count out.old from out.new result }
 {
     let mut at = from;
-    let mut k = 0;
-    while k < count {
+    for k in 0..count {
         at = line_at(out, at, bytes, k, by);
-        k += 1;
     }
     at
 }
@@ -69,33 +68,44 @@ fn lines_to(out: &mut [u8], from: usize, bytes: &[u8], count: u32, by: Profile) 
 fn whole_list(bytes: &[u8], out: &mut [u8], by: Profile) -> usize
     ensures { WholeList by bytes.now out.old out.new result }
 {
-    let c = check_block(bytes);
-    if c.code != 0 {
-        return refused_line(out, 0, c.code as u64, c.number as u64);
+    match check(bytes) {
+        Ok(count) => {
+            let version = get_u16(bytes, 3);
+            let at = first_line(out, 0, version as u64, count as u64);
+            lines_to(out, at, bytes, count, by)
+        }
+        Err(e) => refused_line(out, 0, e.refusal.number() as u64, e.number as u64),
     }
-    let version = get_u16(bytes, 3);
-    let at = first_line(out, 0, version as u64, c.count as u64);
-    lines_to(out, at, bytes, c.count, by)
 }
 
-// Writes the list of a block by a profile into a buffer, and answers its length; 5 where the buffer is too short.
-pub fn write_by(bytes: &[u8], out: &mut [u8], by: Profile) -> Listed
-    ensures { WritesBy by bytes.now out.old out.new result }
+// Writes the list of a block by a profile into a buffer, and tells its length; 5 where the buffer is too short.
+fn write_listed(bytes: &[u8], out: &mut [u8], by: Profile) -> Result<usize, Refusal>
+    ensures { WritesBy by bytes.now out.old out.new (as_listed result) }
 {
     let mut space = [0u8; 71680];
     let n = whole_list(bytes, &mut space, by);
     if out.len() < n {
-        return Listed {
-            code: 5,
-            number: 0,
-            length: 0,
-        };
+        return Err(Refusal::Room);
     }
     write::word(out, 0, &space[..n]);
-    Listed {
-        code: 0,
-        number: 0,
-        length: n,
+    Ok(n)
+}
+
+// Writes the list of a block by a profile into a buffer, and answers its length.
+pub fn write_by(bytes: &[u8], out: &mut [u8], by: Profile) -> Listed
+    ensures { WritesBy by bytes.now out.old out.new result }
+{
+    match write_listed(bytes, out, by) {
+        Ok(length) => Listed {
+            code: 0,
+            number: 0,
+            length,
+        },
+        Err(e) => Listed {
+            code: e.number(),
+            number: 0,
+            length: 0,
+        },
     }
 }
 

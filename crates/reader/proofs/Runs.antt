@@ -5,6 +5,7 @@
 --   run_ends     : and behind the last one the end, again and again
 --   run-refused  : over bytes that are refused, every step answers the end
 -- Assumes nothing.
+use Rattle.std.specs.Prelude.{Option}
 use mathlib.Core.Path.{◌≡◌, refl, sym, ap, ◌∙◌, subst}
 use mathlib.Core.List.{List}
 use mathlib.Core.Logic.{inl, inr}
@@ -27,7 +28,6 @@ use Rattle.block.proofs.Walk.{accepted-header}
 use Rattle.block.proofs.Answers.{fetch-accepted, fetch-beyond, fetches-unique}
 use Rattle.block.proofs.Blocks.{block-count, held-record, holds-accepted}
 use Rattle.block.proofs.Demands.{checked-block}
-use Rattle.reader.specs.declared.Next.{Next}
 use Rattle.reader.specs.declared.Found.{Found}
 use Rattle.reader.specs.declared.Opened.{Opened}
 use Rattle.reader.specs.declared.Reader.{Reader}
@@ -71,7 +71,7 @@ module _ (l : List ℕ) (a : Accepted (block_codes l)) where
   ends : (k p : ℕ) → Stands (count_of l) k p → count_of l ≤ k → step_at l p ≡ over_at (place (count_of l))
   ends k p h i = ap (step_at l) (h.behind i) ∙ step-over l (place (count_of l)) (omega (arith, size))
 
-  stands-more : (k p : ℕ) (n : Next) (p' : ℕ) → Stands (count_of l) k p → Steps l p n p' → Stands (count_of l) (suc k) p'
+  stands-more : (k p : ℕ) (n : Option Record) (p' : ℕ) → Stands (count_of l) k p → Steps l p n p' → Stands (count_of l) (suc k) p'
   stands-more k p n p' h t = go (dec_le (suc k) (count_of l))
     where
       go : Dec (k < count_of l) → Stands (count_of l) (suc k) p'
@@ -82,7 +82,7 @@ module _ (l : List ℕ) (a : Accepted (block_codes l)) where
           let e : p' ≡ place (count_of l) = t.moved ∙ ap (λ (f : Found). f.at) (ends k p h (omega arith)) in
           record { before = λ j. absurd (omega arith); behind = λ j. e }
 
-  step_gives : (k p : ℕ) (n : Next) (p' : ℕ) → Stands (count_of l) k p → Steps l p n p' → (f : Fetched) → Fetches l k f → f ≡ fetch_of n
+  step_gives : (k p : ℕ) (n : Option Record) (p' : ℕ) → Stands (count_of l) k p → Steps l p n p' → (f : Fetched) → Fetches l k f → f ≡ fetch_of n
   step_gives k p n p' h t f g = go (dec_le (suc k) (count_of l))
     where
       go : Dec (k < count_of l) → f ≡ fetch_of n

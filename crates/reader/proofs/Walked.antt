@@ -9,31 +9,34 @@
 --   reader-ends   : and then the end, and the end again
 --   step-fetches  : each step gives what a fetch gives
 -- Assumes nothing.
+use Rattle.std.specs.Prelude.{Option, Some, None}
+use Rattle.std.proofs.lemmas.Option.{none-some, same_Some}
 use mathlib.Core.Path.{◌≡◌, refl, sym, ap, ◌∙◌}
-use mathlib.Core.Bool.{Bool, true, false, cond}
+use mathlib.Core.Bool.{true, false}
 use mathlib.Core.List.{List}
 use mathlib.Core.Logic.{inl, inr}
 use Prim.Native.Nat.{ℕ, suc, ◌+◌, ◌≤◌, ◌<◌}
 use native.Mathlib.Omega.{arith}
-use borrow.Author.Tests.{lt-ltb, le-ltb, ltb-true, ltb-false}
+use native.Mathlib.Decide.{dec_le}
+use borrow.Author.Tests.{lt-ltb, le-ltb}
 use lib.Dec.{ltb}
 use lib.ListN.{length}
-use Rattle.element.specs.Refusals.{Accepted}
+use Rattle.element.specs.Refusals.{Refused, Accepted}
 use Rattle.element.proofs.Refusals.{refused-accepted}
 use Rattle.record.specs.declared.Record.{Record}
-use Rattle.record.specs.Record.{blank}
+use Rattle.record.specs.Record.{read_record}
 use Rattle.block.specs.declared.Checked.{Checked}
 use Rattle.block.specs.declared.Fetched.{Fetched}
 use Rattle.block.specs.Block.{place, record_of, Holds}
-use Rattle.block.specs.Faults.{block_codes}
-use Rattle.block.specs.Calls.{Checks, fetched, Fetches}
+use Rattle.block.specs.Faults.{block_codes, fetch_codes}
+use Rattle.block.specs.Calls.{Checks, Fetches}
 use Rattle.block.proofs.Header.{header-size}
 use Rattle.block.proofs.Walk.{block-some, accepted-header}
-use Rattle.block.proofs.Answers.{checks-unique, fetch-beyond, fetches-refused}
+use Rattle.block.proofs.Answers.{checks-unique, fetch-beyond}
 use Rattle.block.proofs.Blocks.{block-length, held-record}
 use Rattle.block.proofs.Demands.{fetched-record}
 use Rattle.reader.specs.declared.Found.{Found}
-use Rattle.reader.specs.declared.Next.{Next}
+use Rattle.reader.specs.Runs.{fetch_of}
 use Rattle.reader.specs.Steps.{over_at, found_at, step_at, Steps, NoWalk, Begins, Opens}
 
 -- ---- a step
@@ -44,24 +47,27 @@ module _ (l : List ℕ) (at : ℕ) where
   pub step-found : at + 80 ≤ length l → step_at l at ≡ found_at l at
   step-found h = let e : ltb (length l) (at + 80) ≡ false = le-ltb (length l) (at + 80) h in rw e refl
 
-  test-is : (b : Bool) → (cond b (over_at at) (found_at l at)).next.over ≡ b
-  test-is true = refl
-  test-is false = refl
+  pub over-test : (step_at l at).next ≡ None → length l < at + 80
+  over-test e = by-test (dec_le (at + 80) (length l))
+    where
+      by-test : Dec (at + 80 ≤ length l) → length l < at + 80
+      by-test (yes h) = absurd (none-some (read_record l at) (sym e ∙ ap (λ (f : Found). f.next) (step-found h)))
+      by-test (no h) = omega arith
 
-  pub over-test : (step_at l at).next.over ≡ true → length l < at + 80
-  over-test e = ltb-true (length l) (at + 80) (sym (test-is (ltb (length l) (at + 80))) ∙ e)
-
-  pub found-test : (step_at l at).next.over ≡ false → at + 80 ≤ length l
-  found-test e = ltb-false (length l) (at + 80) (sym (test-is (ltb (length l) (at + 80))) ∙ e)
+  pub found-test : (r : Record) → (step_at l at).next ≡ Some r → (at + 80 ≤ length l) × (r ≡ read_record l at)
+  found-test r e = by-test (dec_le (at + 80) (length l))
+    where
+      by-test : Dec (at + 80 ≤ length l) → (at + 80 ≤ length l) × (r ≡ read_record l at)
+      by-test (yes h) = (h, same_Some _ _ (sym e ∙ ap (λ (f : Found). f.next) (step-found h)))
+      by-test (no h) = absurd (none-some _ (sym (ap (λ (f : Found). f.next) (step-over (omega arith))) ∙ e))
 
   -- where a step of a block is the end, no record k from there on is there
-  pub over-beyond : (j k : ℕ) → Accepted (block_codes l) → at ≡ place j → j ≤ k → (step_at l at).next.over ≡ true → (r : Fetched) → r ≡ fetched 12 0 blank
-      → Fetches l k r
-  over-beyond j k a e h t r q =
-      fetches-refused l k 12 0 r q (fetch-beyond l k a (omega (arith, over-test t, e, h, header-size l (accepted-header l a))))
+  pub over-beyond : (j k : ℕ) → Accepted (block_codes l) → at ≡ place j → j ≤ k → (step_at l at).next ≡ None
+      → Refused (fetch_codes l k) (record { code = 12; number = 0 })
+  over-beyond j k a e h t = fetch-beyond l k a (omega (arith, over-test t, e, h, header-size l (accepted-header l a)))
 
 -- ---- the call of a step
-pub steps-unique : {l : List ℕ} {at : ℕ} {n m : Next} {p q : ℕ} → Steps l at n p → Steps l at m q → (n ≡ m) × (p ≡ q)
+pub steps-unique : {l : List ℕ} {at : ℕ} {n m : Option Record} {p q : ℕ} → Steps l at n p → Steps l at m q → (n ≡ m) × (p ≡ q)
 steps-unique s t = (s.found ∙ sym t.found, s.moved ∙ sym t.moved)
 
 -- ---- an opening
@@ -92,10 +98,10 @@ module _ (l : List ℕ) where
 -- ---- over a block
 module _ {v : ℕ} {l : List ℕ} {rs : List Record} (h : Holds v l rs) where
   found : Record → ℕ → Found
-  found r n = record { next = record { over = false; found = r }; at = n }
+  found r n = record { next = Some r; at = n }
 
   pub reader-steps : (k : ℕ) → k < length rs
-      → step_at l (place k) ≡ record { next = record { over = false; found = record_of rs k }; at = place (suc k) }
+      → step_at l (place k) ≡ record { next = Some (record_of rs k); at = place (suc k) }
   unfolding found
   reader-steps k i =
       step-found l (place k) (omega (arith, block-length h))
@@ -106,6 +112,6 @@ module _ {v : ℕ} {l : List ℕ} {rs : List Record} (h : Holds v l rs) where
   pub reader-ends : step_at l (place (length rs)) ≡ over_at (place (length rs))
   reader-ends = step-over l (place (length rs)) (omega (arith, block-length h))
 
-  pub step-fetches : (k : ℕ) → k < length rs → (r : Fetched) → Fetches l k r → r ≡ fetched 0 0 (step_at l (place k)).next.found
+  pub step-fetches : (k : ℕ) → k < length rs → (r : Fetched) → Fetches l k r → r ≡ fetch_of (step_at l (place k)).next
   step-fetches k i r f =
-      fetched-record h k i r f ∙ ap (λ (q : Record). fetched 0 0 q) (sym (ap (λ (f : Found). f.next.found) (reader-steps k i)))
+      fetched-record h k i r f ∙ ap fetch_of (sym (ap (λ (f : Found). f.next) (reader-steps k i)))

@@ -6,13 +6,12 @@
 --   record_next r, over_next == a step's answer: the record r, and the end
 --   fetch_of n       == what a fetch answers where a step answers n: the record, or the code 12 at the end
 -- Definitions only.
-use Rattle.std.specs.Prelude.{◌≡◌, true, false, cond, List, ℕ, suc}
+use Rattle.std.specs.Prelude.{◌≡◌, List, ℕ, suc, Option, Some, None}
 use Rattle.std.specs.Borrow.{Bor}
 use Rattle.record.specs.declared.Record.{Record}
 use Rattle.record.specs.Record.{blank}
 use Rattle.block.specs.declared.Fetched.{Fetched}
 use Rattle.block.specs.Calls.{fetched}
-use Rattle.reader.specs.declared.Next.{Next}
 use Rattle.reader.specs.declared.Opened.{Opened}
 use Rattle.reader.specs.declared.Reader.{Reader}
 use Rattle.reader.specs.declared.Stepped.{Stepped}
@@ -30,11 +29,12 @@ pub data Ran (o : Opened) : ℕ → Reader → Type 0 where
   none : Ran o 0 o.reader
   more : {n : ℕ} {r : Reader} → Ran o n r → (q : Stepped) → StepsReader r q → Ran o (suc n) q.reader
 
-abbrev pub record_next : Record → Next
-record_next r = record { over = false; found = r }
+abbrev pub record_next : Record → Option Record
+record_next r = Some r
 
-abbrev pub over_next : Next
-over_next = record { over = true; found = blank }
+abbrev pub over_next : Option Record
+over_next = None
 
-abbrev pub fetch_of : Next → Fetched
-fetch_of n = cond n.over (fetched 12 0 blank) (fetched 0 0 n.found)
+abbrev pub fetch_of : Option Record → Fetched
+fetch_of None = fetched 12 0 blank
+fetch_of (Some r) = fetched 0 0 r

@@ -6,27 +6,27 @@
 --   Steps l at next after == a step finds next, and the reader's place is `after`
 --   NoWalk, Begins l c at == a refused opening, and one that is accepted: the check's answer, and the reader's place
 --   Opens l c at    == the one or the other
--- Record, Next and Found are structs: a record or the end, and where the next step begins.
+-- Found is a struct: a record or the end, and where the next step begins.
 -- Definitions only.
-use Rattle.std.specs.Prelude.{◌≡◌, true, false, cond, List, ◌⊎◌, ℕ, ◌+◌, ltb, length}
-use Rattle.record.specs.Record.{read_record, blank}
+use Rattle.std.specs.Prelude.{◌≡◌, cond, List, ◌⊎◌, ℕ, ◌+◌, ltb, length, Option, Some, None}
+use Rattle.record.specs.declared.Record.{Record}
+use Rattle.record.specs.Record.{read_record}
 use Rattle.block.specs.declared.Checked.{Checked}
 use Rattle.block.specs.Block.{place}
 use Rattle.block.specs.Faults.{block_codes}
 use Rattle.block.specs.Calls.{NoCount, Counted}
 use Rattle.reader.specs.declared.Found.{Found}
-use Rattle.reader.specs.declared.Next.{Next}
 
 abbrev pub over_at : ℕ → Found
-over_at at = record { next = record { over = true; found = blank }; at = at }
+over_at at = record { next = None; at = at }
 
 abbrev pub found_at : List ℕ → ℕ → Found
-found_at l at = record { next = record { over = false; found = read_record l at }; at = at + 80 }
+found_at l at = record { next = Some (read_record l at); at = at + 80 }
 
 abbrev pub step_at : List ℕ → ℕ → Found
 step_at l at = cond (ltb (length l) (at + 80)) (over_at at) (found_at l at)
 
-pub record Steps (l : List ℕ) (at : ℕ) (next : Next) (after : ℕ) : Type 0 where
+pub record Steps (l : List ℕ) (at : ℕ) (next : Option Record) (after : ℕ) : Type 0 where
   pub found : next ≡ (step_at l at).next
   pub moved : after ≡ (step_at l at).at
 

@@ -2,11 +2,12 @@
 #![tactic(auto)]
 
 ghost use Rattle.std.specs.Prelude.{◌≡◌};
-ghost use Rattle.block.specs.Calls.{Fetches};
-ghost use Rattle.reader.specs.Steps.{over_at, step_at, Opens};
+ghost use Rattle.block.specs.Calls.{as_fetched, Fetches};
+ghost use Rattle.reader.specs.Steps.{step_at, Opens};
 ghost use Rattle.reader.specs.Runs.{OpensReader, StepsReader};
 
-use block::{Checked, Fetched, check_block, refuse};
+use block::{Checked, Fetched, Refused, answer, check, check_block};
+use faults::refusal::Refusal;
 use record::{Record, read_record};
 
 // The bytes of a block, and where the next record begins.
@@ -16,24 +17,18 @@ pub struct Reader<'a> {
     pub place: usize,
 }
 
-// A record, or the end.
-#[derive(Clone, Copy)]
-pub struct Next {
-    pub over: bool,
-    pub found: Record,
-}
-
-// What a step on a plain slice finds, and where the next one begins.
+// What a step on a plain slice finds, a record or the end, and where the next one begins.
 #[derive(Clone, Copy)]
 pub struct Found {
-    pub next: Next,
+    pub next: Option<Record>,
     pub at: usize,
 }
 
 // What a step finds, and the reader for the next one.
+// stays (2): (a) beside `Found`, as `Opened` beside `Begun`: `StepsReader`, `OpensReader` and the runs of reader/specs/Runs hold a reader.
 #[derive(Clone, Copy)]
 pub struct Stepped<'a> {
-    pub next: Next,
+    pub next: Option<Record>,
     pub reader: Reader<'a>,
 }
 
@@ -51,36 +46,18 @@ pub struct Opened<'a> {
     pub reader: Reader<'a>,
 }
 
-// The end, at a place.
-fn over(at: usize) -> Found
-    ensures { result ≡ over_at at }
-{
-    let found = Record {
-        id: 0,
-        kind: 0,
-        limit: 0,
-        signed: 0,
-        level: 0,
-        coords: [0i32; 18],
-    };
-    let next = Next { over: true, found };
-    Found { next, at }
-}
-
 // The record at a place, or the end.
 pub fn step_at(s: &[u8], at: usize) -> Found
     ensures { result ≡ step_at s.now at }
 {
-    let n = s.len();
-    if n < at {
-        return over(at);
+    if s.len().saturating_sub(at) < 80 {
+        return Found { next: None, at };
     }
-    if n - at < 80 {
-        return over(at);
+    let r = read_record(s, at);
+    Found {
+        next: Some(r),
+        at: at + 80,
     }
-    let found = read_record(s, at);
-    let next = Next { over: false, found };
-    Found { next, at: at + 80 }
 }
 
 // The check, and the place of the first record; of a refused block the place behind all bytes.
@@ -125,41 +102,29 @@ pub fn step_reader<'a>(r: Reader<'a>) -> Stepped<'a>
     }
 }
 
+// Record k, by steps from the first record on.
+fn fetch_by_steps(bytes: &[u8], k: u32) -> Result<Record, Refused>
+    ensures { Fetches bytes.now k (as_fetched result) }
+{
+    check(bytes)?;
+    let mut at = 9;
+    for j in 0..k {
+        let f = step_at(bytes, at);
+        let Some(_) = f.next else {
+            return Err(Refused::from(Refusal::Absent));
+        };
+        at = f.at;
+    }
+    let f = step_at(bytes, at);
+    match f.next {
+        Some(r) => Ok(r),
+        None => Err(Refused::from(Refusal::Absent)),
+    }
+}
+
 // Record k, by the steps of a reader from the first record on.
 pub fn read_by_steps(bytes: &[u8], k: u32) -> Fetched
     ensures { Fetches bytes.now k result }
 {
-    let b = begin_at(bytes);
-    let c = b.checked;
-    if c.code != 0 {
-        return refuse(c.code, c.number);
-    }
-    let mut at = b.at;
-    let mut j: u32 = 0;
-    while j < k {
-        let f = step_at(bytes, at);
-        let q = f.next;
-        if q.over {
-            return refuse(12, 0);
-        }
-        at = f.at;
-        j += 1;
-    }
-    let f = step_at(bytes, at);
-    let next = f.next;
-    if next.over {
-        return refuse(12, 0);
-    }
-    let r = next.found;
-    let coords = r.coords;
-    Fetched {
-        code: 0,
-        number: 0,
-        id: r.id,
-        kind: r.kind,
-        limit: r.limit,
-        signed: r.signed,
-        level: r.level,
-        coords,
-    }
+    answer(fetch_by_steps(bytes, k))
 }

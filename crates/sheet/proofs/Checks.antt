@@ -1,20 +1,17 @@
 -- The answers of `check_sheet`, case by case of the code.
 --   headed-no, headed-yes : the header, by the test of the code
---   end-here, end-elsewhere : the code, by the place where reading ended
---   check-refused, check-headless, check-read : the three ways out
+--   check-refused, check-headless, check-failed, check-before, check-end : the ways out
 -- Assumes nothing.
+use Rattle.std.specs.Prelude.{Some, None}
 use mathlib.Core.Path.{◌≡◌, refl, sym, ◌∙◌, ap, subst}
-use mathlib.Core.Bool.{Bool, true, false, cond}
+use mathlib.Core.Bool.{Bool, true, false}
 use mathlib.Core.List.{List, [], ◌∷◌, ◌++◌, append-nil}
-use mathlib.Core.Logic.{◌⊎◌, inl, inr}
+use mathlib.Core.Logic.{inl, inr}
 use Prim.Native.Nat.{ℕ, ◌-◌, ◌≤◌, ◌<◌}
 use native.Mathlib.Nat as N
 use native.Mathlib.Omega.{arith}
-use borrow.Author.Tests.{eqb-false, eq-eqb, ne_eqb}
-use lib.Dec.{eqb, eqb→eq}
 use lib.IntN.{ℤ}
 use lib.ListN.{length, drop, length-drop}
-use Rattle.algebra.proofs.Truth.{true-T}
 use Rattle.element.specs.Kinds.{Kind, kind_of}
 use Rattle.element.specs.Control.{control_values}
 use Rattle.element.specs.Cells.{shape_of}
@@ -22,12 +19,9 @@ use Rattle.element.specs.Refusals.{Codes, no_more, code, Accepted, Coded, stored
 use Rattle.element.proofs.Refusals.{refused-then, past-then, coded-some}
 use Rattle.cuttings.specs.Bytes.{cutting_bytes, header}
 use Rattle.cuttings.specs.Reads.{Reads, Checked}
-use Rattle.cuttings.specs.declared.Read.{Read}
-use Rattle.cuttings.specs.declared.Read.TheVariants.{Next, Failed}
 use Rattle.cuttings.proofs.Reading.{reads-one}
-use Rattle.sheet.specs.Steps.{Headed, end_code}
+use Rattle.sheet.specs.Steps.{Headed}
 use Rattle.sheet.specs.Calls.{Shown, checked, ChecksSheet}
-use Rattle.sheet.specs.declared.CheckedSheet.{CheckedSheet}
 
 -- ---- by the tests of the code
 pub headed-no : (c : Bool) (m : List ℕ) → c ≡ false → Headed m c → Headed m false
@@ -35,12 +29,6 @@ headed-no c m e p = subst (Headed m) e p
 
 pub headed-yes : (c : Bool) (m : List ℕ) → c ≡ true → Headed m c → Headed m true
 headed-yes c m e p = subst (Headed m) e p
-
-pub end-here : {r : Read} {b n : ℕ} → r ≡ Next b → b ≡ n → 0 ≡ end_code r n
-end-here {r} {b} {n} e f = sym (ap (λ (r : Read). end_code r n) e ∙ rw (f, eq-eqb n n refl) refl)
-
-pub end-elsewhere : {r : Read} {b n : ℕ} → r ≡ Next b → ¬ (b ≡ n) → 20 ≡ end_code r n
-end-elsewhere {r} {b} {n} e f = sym (ap (λ (r : Read). end_code r n) e ∙ rw (ne_eqb b n f) refl)
 
 -- ---- a sheet shows that an element is valid exactly when its cutting is read to the end
 module _ (k : Kind) (l : ℕ) (xs : List ℤ) (b : List ℕ) where
@@ -81,46 +69,36 @@ module _ (k : Kind) (l : ℕ) (xs : List ℤ) (b : List ℕ) where
   some-behind : (p : ℕ) → p < length b → ¬ (drop p b ≡ [])
   some-behind p h e = let f = sym (length-drop p b) ∙ ap length e in omega arith
 
-  -- the code by the place where reading ended
-  abbrev Told : ℕ → Type 0
-  Told c = ((c ≡ 0) × Shown k l xs b) ⊎ ((c ≡ 20) × ¬ Shown k l xs b)
+  -- by the place where reading ended
+  read-end : (a : ℕ) → Headed b true → Checked Body b (Some a) → a ≡ length b → Shown k l xs b
+  read-end a h (w, p) e = read-shown h (subst Body (none-behind a (omega arith)) p)
 
-  read-code : (r : Read) {c : ℕ} → Headed b true → Checked Body b r → c ≡ end_code r (length b) → Told c
-  read-code Failed {c} h p e = inr (e, λ s. p [] (shown_read s))
-  read-code (Next a) {c} h (w, p) e = go (eqb a (length b)) refl e
-    where
-      go : (t : Bool) → eqb a (length b) ≡ t → c ≡ cond t 0 20 → Told c
-      go true u e =
-          let f = eqb→eq a (length b) (true-T u) in inl (e, read-shown h (subst Body (none-behind a (omega arith)) p))
-      go false u e =
-          let f = eqb-false a (length b) u in
-          inr (e, λ s. some-behind a (omega arith) (reads-one (shape_of k) p (shown_read s)))
+  read-before : (a : ℕ) → Checked Body b (Some a) → ¬ (a ≡ length b) → ¬ Shown k l xs b
+  read-before a (w, p) f s = some-behind a (omega arith) (reads-one (shape_of k) p (shown_read s))
+
+  read-failed : Checked Body b None → ¬ Shown k l xs b
+  read-failed p s = p [] (shown_read s)
 
 -- ---- the ways out
 module _ (n l : ℕ) (xs : List ℤ) (b : List ℕ) where
   abbrev later : Codes ℕ
   later = code 20 (¬ Shown (kind_of n) l xs b) no_more
 
-  pub check-refused : {c : ℕ} {r : CheckedSheet} → Coded (stored_codes n l xs) c → ¬ (c ≡ 0) → r ≡ checked c → ChecksSheet n l xs b r
-  check-refused {c} p h e =
-      subst (ChecksSheet n l xs b) (sym e)
-      (inl (record { refused = refused-then (stored_codes n l xs) later c (coded-some p h); zeros = refl }))
+  pub check-refused : (c : ℕ) → Coded (stored_codes n l xs) c → ¬ (c ≡ 0) → ChecksSheet n l xs b (checked c)
+  check-refused c p h = inl (record { refused = refused-then (stored_codes n l xs) later c (coded-some p h); zeros = refl })
 
-  check-not : {r : CheckedSheet} → Accepted (stored_codes n l xs) → ¬ Shown (kind_of n) l xs b → r ≡ checked 20 → ChecksSheet n l xs b r
-  check-not a f e =
-      subst (ChecksSheet n l xs b) (sym e)
-      (inl (record { refused = past-then (stored_codes n l xs) later 20 a (inl (f, refl)); zeros = refl }))
+  module _ (a : Accepted (stored_codes n l xs)) where
+    check-not : ¬ Shown (kind_of n) l xs b → ChecksSheet n l xs b (checked 20)
+    check-not f = inl (record { refused = past-then (stored_codes n l xs) later 20 a (inl (f, refl)); zeros = refl })
 
-  pub check-headless : {r : CheckedSheet} → Accepted (stored_codes n l xs) → Headed b false → r ≡ checked 20 → ChecksSheet n l xs b r
-  check-headless a h e = check-not a (headless (kind_of n) l xs b h) e
+    pub check-headless : Headed b false → ChecksSheet n l xs b (checked 20)
+    check-headless h = check-not (headless (kind_of n) l xs b h)
 
-  pub check-read : (s : Read) {c : ℕ} {r : CheckedSheet} → Accepted (stored_codes n l xs) → Headed b true
-      → Checked (Body (kind_of n) l xs b) b s
-      → c ≡ end_code s (length b)
-      → r ≡ checked c
-      → ChecksSheet n l xs b r
-  check-read s {c} {r} a h p e f = go (read-code (kind_of n) l xs b s h p e)
-    where
-      go : Told (kind_of n) l xs b c → ChecksSheet n l xs b r
-      go (inl (g, s)) = inr (record { accepted = a; shown = s; answer = f ∙ ap checked g })
-      go (inr (g, s)) = check-not a s (f ∙ ap checked g)
+    pub check-failed : Checked (Body (kind_of n) l xs b) b None → ChecksSheet n l xs b (checked 20)
+    check-failed p = check-not (read-failed (kind_of n) l xs b p)
+
+    pub check-before : (e : ℕ) → Checked (Body (kind_of n) l xs b) b (Some e) → ¬ (e ≡ length b) → ChecksSheet n l xs b (checked 20)
+    check-before e p f = check-not (read-before (kind_of n) l xs b e p f)
+
+    pub check-end : (e : ℕ) → Headed b true → Checked (Body (kind_of n) l xs b) b (Some e) → e ≡ length b → ChecksSheet n l xs b (checked 0)
+    check-end e h p f = inr (record { accepted = a; shown = read-end (kind_of n) l xs b e h p f; answer = refl })

@@ -18,12 +18,13 @@ use Rattle.forms.specs.Shapes.{pass, cut_to}
 use Rattle.forms.proofs.Cuttings.{leaves-positive}
 use Rattle.element.specs.Kinds.{NotStored, kind_of}
 use Rattle.element.specs.Control.{control_values}
-use Rattle.element.specs.Refusals.{Codes, no_more, code, Refused, stored_codes}
+use Rattle.element.specs.Refusals.{Codes, no_more, code, Refused, Accepted, stored_codes, verdict_codes}
 use Rattle.element.proofs.Refusals.{refused-then, past-then, accepted-then}
-use Rattle.element.proofs.Stored.{stored-not-ten, stored-alike}
+use Rattle.element.proofs.Stored.{stored-accepted}
 use Rattle.judge.specs.Elements.{subject}
 use Rattle.verdict.specs.Calls.{says_valid, VerdictOf}
 use Rattle.verdict.specs.declared.Judged.{Judged}
+use Rattle.verdict.proofs.Judging.{accepted-answered}
 use Rattle.text.specs.Writing.{Wrote}
 use Rattle.text.proofs.Wrote.{wrote-more, wrote_as, take_none}
 use Rattle.cuttings.specs.Bytes.{cutting_bytes, header, sheet_bytes, sheet_size, trimmed}
@@ -33,7 +34,7 @@ use Rattle.sheet.specs.Steps.{trimmed_bytes}
 use Rattle.sheet.specs.Calls.{NotValid, Short, write_codes, written, WritesSheet}
 use Rattle.sheet.specs.declared.WrittenSheet.{WrittenSheet}
 use Rattle.sheet.proofs.Elements.{as-kind}
-use Rattle.sheet.proofs.Least.{least-unique, Ready, valid-accepted, valid-ready, not_valid}
+use Rattle.sheet.proofs.Least.{least-unique, Ready, valid-ready, not_valid}
 
 pub wrote-sheet : (n l : ℕ) (xs r : List ℤ) {o m p : List ℕ} {a e : ℕ} → ¬ NotStored n
     → values_by (eqb n 6) r ≡ control_values (kind_of n) xs
@@ -48,63 +49,63 @@ pub write-other : (n l : ℕ) (xs : List ℤ) (before : List ℕ) {r : WrittenSh
 write-other n l xs before f e =
     subst (λ (r : WrittenSheet). WritesSheet n l xs before r before) (sym e) (inl (record { refused = inl (f, refl); zeros = refl; untouched = refl }))
 
-module _ (n l : ℕ) (xs : List ℤ) (before : List ℕ) (s : ¬ NotStored n) (j : Judged) (v : VerdictOf n l xs j) where
+module _ (n l : ℕ) (xs : List ℤ) (before : List ℕ) where
   abbrev later : Codes ℕ
   later = code 20 (NotValid (kind_of n) l xs) (code 5 (Short (kind_of n) l xs (length before)) no_more)
 
-  refuse : {c : ℕ} {r : WrittenSheet} → Refused (write_codes n l xs (length before)) c → r ≡ written c 0 → WritesSheet n l xs before r before
-  refuse p e = subst (λ (r : WrittenSheet). WritesSheet n l xs before r before) (sym e) (inl (record { refused = p; zeros = refl; untouched = refl }))
+  refuse : (c : ℕ) → Refused (write_codes n l xs (length before)) c → WritesSheet n l xs before (written c 0) before
+  refuse c p = inl (record { refused = p; zeros = refl; untouched = refl })
 
-  pub write-refused : {r : WrittenSheet} → ¬ (j.code ≡ 0) → r ≡ written j.code 0 → WritesSheet n l xs before r before
-  write-refused {r} h e = go v
-    where
-      go : VerdictOf n l xs j → WritesSheet n l xs before r before
-      go (inl p) = refuse (refused-then (stored_codes n l xs) later j.code ((stored-alike n l xs (stored-not-ten s) j.code).1 p.refused)) e
-      go (inr p) = absurd (h (ap (λ (q : Judged). q.code) p.told))
+  pub write-refused : (c : ℕ) → Refused (stored_codes n l xs) c → WritesSheet n l xs before (written c 0) before
+  write-refused c r = refuse c (refused-then (stored_codes n l xs) later c r)
 
-  pub write-not-valid : {r : WrittenSheet} → j.code ≡ 0 → says_valid j.word ≡ false → r ≡ written 20 0 → WritesSheet n l xs before r before
-  write-not-valid e h = refuse (past-then (stored_codes n l xs) later 20 (valid-accepted n l xs j v s e) (inl (not_valid n l xs j v e h, refl)))
+  module _ (a : Accepted (stored_codes n l xs)) (j : Judged) (v : VerdictOf n l xs j) where
+    -- an element without a fault has a verdict
+    answered : j.code ≡ 0
+    answered =
+        let p = accepted-answered (verdict_codes n l xs) (subject (kind_of n) xs) l j v (stored-accepted n l xs a) in
+        ap (λ (q : Judged). q.code) p.told
 
-  -- the sheet of a valid element
-  module _ (e : j.code ≡ 0) (h : says_valid j.word ≡ true) where
-    ready : Ready (kind_of n) l xs j.cells
-    ready = valid-ready n l xs j v h
+    pub write-not-valid : says_valid j.word ≡ false → WritesSheet n l xs before (written 20 0) before
+    write-not-valid h = refuse 20 (past-then (stored_codes n l xs) later 20 a (inl (not_valid n l xs j v answered h, refl)))
 
-    pub some-cells : 0 < j.cells
-    some-cells = let m = ready.many in omega (arith, leaves-positive ready.cutting)
+    -- the sheet of a valid element
+    module _ (h : says_valid j.word ≡ true) where
+      ready : Ready (kind_of n) l xs j.cells
+      ready = valid-ready n l xs j v h
 
-    size_is : length (sheet_bytes ready.cutting) ≡ sheet_size j.cells
-    size_is = sheet-size ready.cutting ∙ ap sheet_size (sym ready.many)
+      pub some-cells : 0 < j.cells
+      some-cells = let m = ready.many in omega (arith, leaves-positive ready.cutting)
 
-    is_valid : ¬ NotValid (kind_of n) l xs
-    is_valid f = f (ready.answer, ready.valid)
+      size_is : length (sheet_bytes ready.cutting) ≡ sheet_size j.cells
+      size_is = sheet-size ready.cutting ∙ ap sheet_size (sym ready.many)
 
-    pub write-short : {r : WrittenSheet} → length before < sheet_size j.cells → r ≡ written 5 0 → WritesSheet n l xs before r before
-    write-short k =
-        refuse
-        (past-then (stored_codes n l xs) later 5 (valid-accepted n l xs j v s e)
-        (inr (is_valid, inl ((ready.cutting, ready.least, rw size_is k), refl))))
+      is_valid : ¬ NotValid (kind_of n) l xs
+      is_valid f = f (ready.answer, ready.valid)
 
-    not_short : sheet_size j.cells ≤ length before → ¬ Short (kind_of n) l xs (length before)
-    not_short k (t, p, q) =
-        let same = least-unique (subject (kind_of n) xs) l t ready.cutting p ready.least in
-        let f : length (sheet_bytes t) ≡ sheet_size j.cells = ap (λ (t : Cutting). length (sheet_bytes t)) same ∙ size_is in
-        N.not-le_of_lt q (rw f k)
+      pub write-short : length before < sheet_size j.cells → WritesSheet n l xs before (written 5 0) before
+      write-short k =
+          refuse 5 (past-then (stored_codes n l xs) later 5 a (inr (is_valid, inl ((ready.cutting, ready.least, rw size_is k), refl))))
 
-    pub write_done : {o : List ℕ} {end : ℕ} {r : WrittenSheet} → sheet_size j.cells ≤ length before
-        → Wrote before 0 (trimmed_bytes (kind_of n) l xs) o end
-        → r ≡ written 0 end
-        → WritesSheet n l xs before r o
-    write_done {o} {end} {r} k p f =
-        let b : List ℕ = sheet_bytes ready.cutting in
-        let w : Wrote before 0 b o end = wrote_as p ready.sheet in
-        let room : 0 + length b ≤ length before = rw (N.zero-add (length b), size_is) k in
-        inr
-        (record {
-          accepted = accepted-then (stored_codes n l xs) later (valid-accepted n l xs j v s e) (is_valid, (not_short k, tt));
-          cutting = ready.cutting;
-          least = ready.least;
-          answer = f ∙ ap (written 0) (w.place room ∙ N.zero-add (length b));
-          filled = w.content room ∙ ap (λ (m : List ℕ). m ++ (b ++ drop (0 + length b) before)) (take_none before)
-              ∙ ap (λ (i : ℕ). b ++ drop i before) (N.zero-add (length b));
-        })
+      not_short : sheet_size j.cells ≤ length before → ¬ Short (kind_of n) l xs (length before)
+      not_short k (t, p, q) =
+          let same = least-unique (subject (kind_of n) xs) l t ready.cutting p ready.least in
+          let f : length (sheet_bytes t) ≡ sheet_size j.cells = ap (λ (t : Cutting). length (sheet_bytes t)) same ∙ size_is in
+          N.not-le_of_lt q (rw f k)
+
+      pub write_done : {o : List ℕ} (end : ℕ) → sheet_size j.cells ≤ length before
+          → Wrote before 0 (trimmed_bytes (kind_of n) l xs) o end
+          → WritesSheet n l xs before (written 0 end) o
+      write_done {o} end k p =
+          let b : List ℕ = sheet_bytes ready.cutting in
+          let w : Wrote before 0 b o end = wrote_as p ready.sheet in
+          let room : 0 + length b ≤ length before = rw (N.zero-add (length b), size_is) k in
+          inr
+          (record {
+            accepted = accepted-then (stored_codes n l xs) later a (is_valid, (not_short k, tt));
+            cutting = ready.cutting;
+            least = ready.least;
+            answer = ap (written 0) (w.place room ∙ N.zero-add (length b));
+            filled = w.content room ∙ ap (λ (m : List ℕ). m ++ (b ++ drop (0 + length b) before)) (take_none before)
+                ∙ ap (λ (i : ℕ). b ++ drop i before) (N.zero-add (length b));
+          })

@@ -10,15 +10,18 @@
 --   Short k l xs room      == the sheet of its least cutting is longer than the room
 --   write_codes n l xs room == the order of refusals of `write_sheet`
 --   written c m            == its answer with the code c and the length m
+--   as_written r           == the answer that the result of a writer tells
 --   NoSheet, HasSheet n l xs before r after == a refusal, and a success
 --   WritesSheet n l xs before r after       == the one or the other
 -- n is the number given as the kind, l the level limit, xs the coordinate list, b the sheet, r the answer, before and after the buffer's
 -- content.
 -- Definitions only.
-use Rattle.std.specs.Prelude.{◌≡◌, List, ◌++◌, ◌⊎◌, ℕ, ◌≤◌, ◌<◌, ℤ, length, drop}
+use Rattle.std.specs.Prelude.{◌≡◌, List, ◌++◌, ◌⊎◌, ℕ, ◌≤◌, ◌<◌, ℤ, length, drop, Result, Ok, Err}
 use Rattle.forms.specs.Cuttings.{Cutting, leaves, depth}
 use Rattle.element.specs.Kinds.{Kind, kind_of}
 use Rattle.element.specs.Refusals.{Codes, no_more, code, ◌then◌, Refused, Accepted, stored_codes}
+use Rattle.faults.specs.declared.refusal.Refusal as fault
+use Rattle.faults.specs.Refusal.{number_of}
 use Rattle.judge.specs.Verdict.{Subject, Passing, ValidUnder}
 use Rattle.judge.specs.Elements.{subject}
 use Rattle.cuttings.specs.Bytes.{sheet_bytes}
@@ -72,6 +75,10 @@ write_codes n l xs room =
 
 abbrev pub written : ℕ → ℕ → WrittenSheet
 written c m = record { code = c; number = 0; length = m }
+
+abbrev pub as_written : Result ℕ fault.Refusal → WrittenSheet
+as_written (Ok m) = written 0 m
+as_written (Err e) = written (number_of e) 0
 
 -- "A refusal returns the code, .. zero in all other fields, and changes no lent buffer"
 pub record NoSheet (n l : ℕ) (xs : List ℤ) (before : List ℕ) (r : WrittenSheet) (after : List ℕ) : Type 0 where

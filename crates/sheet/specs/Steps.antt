@@ -1,24 +1,17 @@
 -- What the functions under the sheet's calls compute on the way.
 --   Headed l b     == b says whether the bytes l begin with the header
---   end_code r n    == 0 if what was read ends at the place n, else 20
 --   trimmed_bytes k l xs == the sheet that keeps each cell that passes and cuts any other, l levels down
 -- Definitions only.
-use Rattle.std.specs.Prelude.{◌≡◌, Bool, true, false, cond, List, ◌++◌, ℕ, eqb, ℤ, drop}
+use Rattle.std.specs.Prelude.{◌≡◌, Bool, true, false, List, ◌++◌, ℕ, ℤ, drop}
 use Rattle.forms.specs.Shapes.{pass, cut_to}
 use Rattle.element.specs.Kinds.{Kind}
 use Rattle.element.specs.Control.{control_values}
 use Rattle.element.specs.Cells.{shape_of}
 use Rattle.cuttings.specs.Bytes.{header, sheet_bytes, trimmed}
-use Rattle.cuttings.specs.declared.Read.{Read}
-use Rattle.cuttings.specs.declared.Read.TheVariants.{Next, Failed}
 
 abbrev pub Headed : List ℕ → Bool → Type 0
 Headed l true = l ≡ header ++ drop 5 l
 Headed l false = (m : List ℕ) → ¬ (l ≡ header ++ m)
-
-abbrev pub end_code : Read → ℕ → ℕ
-end_code (Next b) n = cond (eqb b n) 0 20
-end_code Failed n = 20
 
 abbrev pub trimmed_bytes : Kind → ℕ → List ℤ → List ℕ
 trimmed_bytes k l xs = sheet_bytes (trimmed (pass (shape_of k)) (cut_to (shape_of k)) l (control_values k xs))

@@ -6,13 +6,14 @@ ghost use Rattle.element.specs.Kinds.{NotStored, kind_of};
 ghost use Rattle.element.specs.Control.{control_values};
 ghost use Rattle.element.specs.Origin.{Inside};
 ghost use Rattle.element.specs.Refusals.{Accepted, stored_codes};
+ghost use Rattle.faults.specs.Refusal.{code_of};
 ghost use Rattle.text.specs.Writing.{Wrote};
 ghost use Rattle.sheet_cells.specs.Either.{values_by};
-ghost use Rattle.sheet.specs.Steps.{Headed, end_code, trimmed_bytes};
-ghost use Rattle.sheet.specs.Calls.{checked as checkedBy, written as written_by, ChecksSheet, WritesSheet};
+ghost use Rattle.sheet.specs.Steps.{Headed, trimmed_bytes};
+ghost use Rattle.sheet.specs.Calls.{checked, as_written, ChecksSheet, WritesSheet};
 
-use cuttings::Read;
-use faults::{stored, stored_code};
+use faults::refusal::Refusal;
+use faults::stored_code;
 use sheet_cells::either::sixteen;
 use sheet_cells::{read, write};
 use text::write::word;
@@ -48,48 +49,38 @@ fn values(kind: u8, coords: &[i32]) -> [i64; 16]
 fn headed(sheet: &[u8]) -> bool
     ensures { Headed sheet.now result }
 {
-    if sheet.len() < 5 {
-        return false;
-    }
-    (sheet[0] == 67) & (sheet[1] == 80) & (sheet[2] == 83) & (sheet[3] == 1) & (sheet[4] == 0)
+    sheet.starts_with(b"CPS\x01\0")
 }
 
-// Code 0 if what was read ends there, else 20.
-fn end_code(read: Read, end: usize) -> u8
-    ensures { result ≡ end_code read end }
+// Refusal 1, 2, 3, 4, 21 or 20, or none, of a sheet, of any writer, that is to show that an element is valid.
+fn sheet_code(kind: u8, limit: u8, coords: &[i32], sheet: &[u8]) -> Result<(), Refusal>
+    ensures { ChecksSheet kind limit coords.now sheet.now (checked (code_of result)) }
 {
-    match read {
-        Read::Next(next) => {
-            if next == end {
-                return 0;
-            }
-            20
-        }
-        Read::Failed => 20,
+    stored_code(kind, limit, coords)?;
+    if !headed(sheet) {
+        return Err(Refusal::NotValid);
     }
+    let c = values(kind, coords);
+    let Some(end) = read::cell(kind == 6, c, limit as u32, sheet, 5) else {
+        return Err(Refusal::NotValid);
+    };
+    if end == sheet.len() {
+        return Ok(());
+    }
+    Err(Refusal::NotValid)
 }
 
-// An answer without a record number: no record is stored here.
-fn checked(code: u8) -> CheckedSheet
-    ensures { result ≡ checkedBy code }
-{
-    CheckedSheet { code, number: 0 }
-}
-
-// Whether a sheet, of any writer, shows that an element is valid: code 0, else 20, or the verdict's own.
+// Whether a sheet, of any writer, shows that an element is valid: code 0, else 20, or the verdict's own. No record is stored here.
 pub fn check_sheet(kind: u8, limit: u8, coords: &[i32], sheet: &[u8]) -> CheckedSheet
     ensures { ChecksSheet kind limit coords.now sheet.now result }
 {
-    let code = stored_code(kind, limit, coords);
-    if code != 0 {
-        return checked(code);
+    match sheet_code(kind, limit, coords, sheet) {
+        Ok(_) => CheckedSheet { code: 0, number: 0 },
+        Err(e) => CheckedSheet {
+            code: e.number(),
+            number: 0,
+        },
     }
-    if !headed(sheet) {
-        return checked(20);
-    }
-    let c = values(kind, coords);
-    let read = read::cell(kind == 6, c, limit as u32, sheet, 5);
-    checked(end_code(read, sheet.len()))
 }
 
 // Writes the sheet that keeps what passes and cuts any other, if there is room for it: the place after it.
@@ -98,41 +89,41 @@ fn write_all(kind: u8, limit: u8, coords: &[i32], out: &mut [u8]) -> usize
     ensures { Wrote out.old 0 (trimmed_bytes (kind_of kind) limit coords.now) out.new result }
 {
     let c = values(kind, coords);
-    let at = word(out, 0, &[67, 80, 83, 1, 0]);
+    let at = word(out, 0, b"CPS\x01\0");
     write::cell(kind == 6, c, limit as u32, out, at)
 }
 
-// An answer without a record number.
-fn written(code: u8, length: usize) -> WrittenSheet
-    ensures { result ≡ written_by code length }
+// Writes the sheet of the least cutting of a valid element, and tells its length. A cutting into n cells has (4n - 1) / 3 bytes, so that
+// the room is tested before anything is written.
+fn write_least(kind: u8, limit: u8, coords: &[i32], out: &mut [u8]) -> Result<usize, Refusal>
+    ensures { WritesSheet kind limit coords.now out.old (as_written result) out.new }
 {
-    WrittenSheet {
-        code,
-        number: 0,
-        length,
-    }
-}
-
-// Writes the sheet of the least cutting of a valid element to the start of a lent buffer. A cutting into n cells has (4n - 1) / 3 bytes,
-// so that the room is tested before anything is written.
-pub fn write_sheet(kind: u8, limit: u8, coords: &[i32], out: &mut [u8]) -> WrittenSheet
-    ensures { WritesSheet kind limit coords.now out.old result out.new }
-{
-    if !stored(kind) {
-        return written(1, 0);
-    }
+    stored_code(kind, limit, coords)?;
     let judged = verdict::verdict(kind, limit, coords);
-    if judged.code != 0 {
-        return written(judged.code, 0);
-    }
-    let told = judged.word;
-    if !is_valid(told) {
-        return written(20, 0);
+    if !is_valid(judged.word) {
+        return Err(Refusal::NotValid);
     }
     let cells = judged.cells as usize;
     if out.len() < 5 + (4 * cells - 1) / 3 {
-        return written(5, 0);
+        return Err(Refusal::Room);
     }
-    let end = write_all(kind, limit, coords, out);
-    written(0, end)
+    Ok(write_all(kind, limit, coords, out))
+}
+
+// Writes the sheet of the least cutting of a valid element to the start of a lent buffer.
+pub fn write_sheet(kind: u8, limit: u8, coords: &[i32], out: &mut [u8]) -> WrittenSheet
+    ensures { WritesSheet kind limit coords.now out.old result out.new }
+{
+    match write_least(kind, limit, coords, out) {
+        Ok(length) => WrittenSheet {
+            code: 0,
+            number: 0,
+            length,
+        },
+        Err(e) => WrittenSheet {
+            code: e.number(),
+            number: 0,
+            length: 0,
+        },
+    }
 }

@@ -8,13 +8,16 @@
 --   moved xs s m      == what is told of the middle node m: whether it was replaced, its old and its new place
 --   given xs s        == the answer's fields, where the nodes of s are replaced
 --   nothing, refusal c == zeros for a middle node; the answer's fields for the code c
+--   as_straightened xs r == the answer that the result of a choice tells
 --   NotStraightened, IsStraightened n l xs r == a refusal, and a success
 --   StraightenOf n l xs r == the one or the other
 --   telling_of r m, set_in r == what an answer tells of the middle node m, and the set of those that it calls replaced
 -- n is the number given as the kind, l the level limit, xs the coordinate list, s a set of middle nodes. Definitions only.
-use Rattle.std.specs.Prelude.{◌≡◌, false, List, ◌⊎◌, ℕ, ℤ, pos, replicate}
+use Rattle.std.specs.Prelude.{◌≡◌, false, List, ◌⊎◌, ℕ, ℤ, pos, replicate, Result, Ok, Err}
 use Rattle.element.specs.Kinds.{six}
 use Rattle.element.specs.Refusals.{Codes, no_more, code, ◌then◌, Refused, Accepted, six_codes}
+use Rattle.faults.specs.declared.refusal.Refusal as fault
+use Rattle.faults.specs.Refusal.{number_of}
 use Rattle.judge.specs.Verdict.{ValidUnder}
 use Rattle.judge.specs.Elements.{subject}
 use Rattle.middles.specs.declared.Replaced.{Replaced}
@@ -61,6 +64,10 @@ nothing = record { replaced = false; old = record { x = pos 0; y = pos 0 }; new 
 -- "A refusal returns the code, the record number for faults in a stored record (else 0), zero in all other fields"
 abbrev pub refusal : ℕ → Straightened
 refusal c = record { code = c; number = 0; coords = replicate 12 (pos 0); m01 = nothing; m12 = nothing; m02 = nothing }
+
+abbrev pub as_straightened : List ℤ → Result Replaced fault.Refusal → Straightened
+as_straightened xs (Ok s) = given xs s
+as_straightened xs (Err e) = refusal (number_of e)
 
 -- ---- the call
 pub record NotStraightened (n l : ℕ) (xs : List ℤ) (r : Straightened) : Type 0 where

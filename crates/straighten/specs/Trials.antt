@@ -2,8 +2,9 @@
 --   trials          == the eight sets, in the order of trial
 --   set_at t         == the one at place t
 --   First l xs t    == t is the first place whose set gives valid, or 8 where there is none
+--   FirstOf l xs r  == the result r tells the set at that place, or that there is none
 -- l is the level limit, xs the coordinate list. Definitions only.
-use Rattle.std.specs.Prelude.{true, false, List, [], ◌∷◌, ℕ, ◌≤◌, ◌<◌, ℤ, get_or}
+use Rattle.std.specs.Prelude.{◌≡◌, true, false, List, [], ◌∷◌, ℕ, ◌≤◌, ◌<◌, ℤ, get_or, Option, Some, None}
 use Rattle.middles.specs.declared.Replaced.{Replaced}
 use Rattle.middles.specs.Sets.{set_of, none}
 use Rattle.straighten.specs.Calls.{GivesValid}
@@ -27,3 +28,13 @@ pub record First (l : ℕ) (xs : List ℤ) (t : ℕ) : Type 0 where
   pub within : t ≤ 8
   pub found : t < 8 → GivesValid l xs (set_at t)
   pub none_before : (k : ℕ) → k < t → ¬ GivesValid l xs (set_at k)
+
+pub record Found (l : ℕ) (xs : List ℤ) (s : Replaced) : Type 0 where
+  pub place : ℕ
+  pub first : First l xs place
+  pub below : place < 8
+  pub set : s ≡ set_at place
+
+abbrev pub FirstOf : ℕ → List ℤ → Option Replaced → Type 0
+FirstOf l xs (Some s) = Found l xs s
+FirstOf l xs None = First l xs 8

@@ -7,9 +7,10 @@ ghost use Rattle.element.specs.Refusals.{Accepted, level_codes};
 ghost use Rattle.middles.specs.Middles.{placed, as_node};
 ghost use Rattle.middles.specs.Sets.{set_of};
 ghost use Rattle.straighten.specs.Calls as spec;
-ghost use Rattle.straighten.specs.Calls.{GivesValid, StraightenOf};
-ghost use Rattle.straighten.specs.Trials.{set_at, First};
+ghost use Rattle.straighten.specs.Calls.{as_straightened, GivesValid, StraightenOf};
+ghost use Rattle.straighten.specs.Trials.{set_at, FirstOf};
 
+use faults::refusal::Refusal;
 use faults::six_code;
 use middles::{Node, Replaced, new_node, node_at, with_set};
 use verdict::{is_valid, verdict};
@@ -69,19 +70,18 @@ fn gives_valid(limit: u8, coords: &[i32], s: Replaced) -> bool
     is_valid(word)
 }
 
-// The first place in the order of trial whose set makes an accepted triangle valid, or 8.
-fn first_set(limit: u8, coords: &[i32]) -> u32
+// The first set in the order of trial that makes an accepted triangle valid, if there is one.
+fn first_set(limit: u8, coords: &[i32]) -> Option<Replaced>
     requires { Accepted (level_codes 6 limit coords.now) }
-    ensures { First limit coords.now result }
+    ensures { FirstOf limit coords.now result }
 {
-    let mut t = 0;
-    while t < 8 {
-        if gives_valid(limit, coords, set_at(t)) {
-            return t;
+    for t in 0..8 {
+        let s = set_at(t);
+        if gives_valid(limit, coords, s) {
+            return Some(s);
         }
-        t += 1;
     }
-    t
+    None
 }
 
 // What becomes of the middle node m, between the corners a and b.
@@ -140,17 +140,23 @@ pub fn refused(code: u8) -> Straightened
     }
 }
 
+// The fewest middle nodes of a triangle that make it valid where the middles of their edges stand for them.
+pub fn choose(kind: u8, limit: u8, coords: &[i32]) -> Result<Replaced, Refusal>
+    ensures { StraightenOf kind limit coords.now (as_straightened coords.now result) }
+{
+    six_code(kind, limit, coords)?;
+    match first_set(limit, coords) {
+        Some(s) => Ok(s),
+        None => Err(Refusal::NoneValid),
+    }
+}
+
 // A triangle with the fewest of its middle nodes replaced by the middles of their edges that make it valid.
 pub fn straighten(kind: u8, limit: u8, coords: &[i32]) -> Straightened
     ensures { StraightenOf kind limit coords.now result }
 {
-    let code = six_code(kind, limit, coords);
-    if code != 0 {
-        return refused(code);
+    match choose(kind, limit, coords) {
+        Ok(s) => told(coords, s),
+        Err(e) => refused(e.number()),
     }
-    let t = first_set(limit, coords);
-    if t == 8 {
-        return refused(22);
-    }
-    told(coords, set_at(t))
 }

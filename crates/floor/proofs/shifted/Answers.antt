@@ -10,12 +10,10 @@ use Rattle.floor.proofs.shifted.Goals as goal
 
 pub loop-k-preserved : goal.loop-k-preserved
 loop-k-preserved c =
-    let p = c.requires in (
-      omega arith,
-      fill_more c.loop-k.invariant.1 (omega arith)
-          ((st (i-sub (st (i-mul (lit 100) (rd (p.values.at _) tt)) tt) (rd p.share tt)) tt).same
-          ∙ ap (λ y. pos 100 *ℤ at c.args.c c.loop-k.k -ℤ y) (sym (rd p.share tt).same)),
-    )
+    let p = c.requires in
+    fill_more c.loop-k.invariant (omega arith)
+    ((st (i-sub (st (i-mul (lit 100) (rd (p.values.at _) tt)) tt) (rd p.share tt)) tt).same
+    ∙ ap (λ y. pos 100 *ℤ at c.args.c c.loop-k.k -ℤ y) (sym (rd p.share tt).same))
 
 pub returns : goal.returns
-returns c = fill_end c.loop-k.invariant.1 (omega arith) ∙ ap (λ y. shifted_by y c.args.c) (rd c.requires.share tt).same
+returns c = fill_end c.loop-k.invariant (omega arith) ∙ ap (λ y. shifted_by y c.args.c) (rd c.requires.share tt).same
