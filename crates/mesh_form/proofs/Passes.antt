@@ -1,21 +1,42 @@
 -- A pass over the items of a text, one after the other.
+--   kind-some      : a row of nodes or elements is one
+--   text_kept, gives-reads : what an iterator over the text gives, as what is read there
 --   left t f       == the items from the row found on
 --   left-start, left-next : all of a text, and those behind a row
 --   left_end       : none are left
 --   left-node, left-element : the first of them, by the kind of the row found
 -- Assumes nothing.
-use mathlib.Core.Path.{◌≡◌, ap, ◌∙◌}
+use mathlib.Core.Path.{◌≡◌, ap, ◌∙◌, subst}
 use mathlib.Core.Bool.{true, false}
 use mathlib.Core.List.{List, [], ◌∷◌, ◌++◌}
 use Prim.Native.Nat.{ℕ}
 use lib.ListN.{drop}
 use Rattle.mesh_text.specs.Rows.{line}
 use Rattle.mesh_form.specs.declared.Cursor.{Cursor}
-use Rattle.mesh_form.specs.declared.Found.{Found}
 use Rattle.mesh_form.specs.declared.Part.TheVariants.{Outside}
-use Rattle.mesh_form.specs.Walk.{Item, items, items_of, items_from, items_in, meaning, Reads}
+use Rattle.std.specs.Prelude.{Option}
+use native.Mathlib.Omega.{arith}
+use Rattle.mesh_form.specs.declared.Kind.{Kind}
+use Rattle.mesh_form.specs.declared.Kind.TheVariants.{Node, Element}
+use Rattle.mesh_form.specs.declared.Item.{Item}
+use Rattle.mesh_form.specs.declared.items.Items.{Items}
+use Rattle.mesh_form.specs.Items.{Gives, found_item}
+use Rattle.mesh_form.specs.Walk.{Found, kind_number, Item as RowItem, items, items_of, items_from, items_in, meaning, Reads}
 
-unfoldable pub left : List ℕ → Found → List Item
+-- a row of nodes or elements is one
+pub kind-some : (k : Kind) → kind_number k ≡ 0 → ⊥
+kind-some Node e = absurd (omega arith)
+kind-some Element e = absurd (omega arith)
+
+-- what an iterator over the text gives, as what is read there
+module _ (t : List ℕ) (a b : Items) (i : Option Item) (e : a.t.now ≡ t) (g : Gives a i b) where
+  pub text_kept : b.t.now ≡ t
+  text_kept = ap (λ x. x.now) g.same ∙ e
+
+  pub gives-reads : Reads 2 t a.c (found_item i b.c)
+  gives-reads = subst (λ x. Reads 2 x a.c (found_item i b.c)) e g.reads
+
+unfoldable pub left : List ℕ → Found → List RowItem
 left t f = items_of f.kind (line (drop f.at t)) ++ items_from t f.next
 
 module _ (t : List ℕ) (f : Found) where

@@ -132,7 +132,7 @@ element-is {r} {e} h =
     ∙ ap (λ x. record { number = id_of r; type = type_of r; nodes = x }) (sym (names-are h))
 
 -- ---- types that are ours
-types : (k : ℕ) (P : Type 0)
+pub types : (k : ℕ) (P : Type 0)
     → (k ≡ 9 → size_of_type k ≡ 6 → P)
     → (k ≡ 10 → size_of_type k ≡ 9 → P)
     → (k ≡ 16 → size_of_type k ≡ 8 → P)
