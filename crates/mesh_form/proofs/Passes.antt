@@ -4,9 +4,10 @@
 --   left t f       == the items from the row found on
 --   left-start, left-next : all of a text, and those behind a row
 --   left_end       : none are left
+--   start-items, gives_none : an iterator over a text begins with all; where it gives none, none are left
 --   left-node, left-element : the first of them, by the kind of the row found
 -- Assumes nothing.
-use mathlib.Core.Path.{◌≡◌, ap, ◌∙◌, subst}
+use mathlib.Core.Path.{◌≡◌, refl, sym, ap, ◌∙◌, subst}
 use mathlib.Core.Bool.{true, false}
 use mathlib.Core.List.{List, [], ◌∷◌, ◌++◌}
 use Prim.Native.Nat.{ℕ}
@@ -14,7 +15,7 @@ use lib.ListN.{drop}
 use Rattle.mesh_text.specs.Rows.{line}
 use Rattle.mesh_form.specs.declared.Cursor.{Cursor}
 use Rattle.mesh_form.specs.declared.Part.TheVariants.{Outside}
-use Rattle.std.specs.Prelude.{Option}
+use Rattle.std.specs.Prelude.{Option, None}
 use native.Mathlib.Omega.{arith}
 use Rattle.mesh_form.specs.declared.Kind.{Kind}
 use Rattle.mesh_form.specs.declared.Kind.TheVariants.{Node, Element}
@@ -61,3 +62,13 @@ module _ (t : List ℕ) (f : Found) where
   pub left-element : f.kind ≡ 2 → left t f ≡ record { node = false; row = line (drop f.at t) } ∷ items_from t f.next
   unfolding left
   left-element e = ap (λ k. items_of k (line (drop f.at t)) ++ items_from t f.next) e
+
+-- ---- a pass by an iterator
+pub start-items : (t : List ℕ) (a : Items) → a.c ≡ record { at = 0; part = Outside false } → items_in t ≡ items_from t a.c
+unfolding meaning
+start-items t a e = ap (items_from t) (sym e)
+
+pub gives_none : (t : List ℕ) (a b : Items) → a.t.now ≡ t → Gives a None b → items_from t a.c ≡ []
+gives_none t a b e g =
+    let r = gives-reads t a b None e g in
+    left-next t _ a.c r ∙ left_end t _ a.c r refl

@@ -14,6 +14,7 @@ use crate::look::look;
 use crate::mark::mark;
 
 // What a pass over a text has found: whether a number stands twice, or is not listed; and the least number above the window, or 2^32.
+// stays (1): `found` is no flag for `above`: specs/Windows `Marks` and `Looks` take both on over the whole pass, found or not
 #[derive(Clone, Copy)]
 pub struct Pass {
     pub found: bool,
