@@ -14,8 +14,6 @@ pub returns : goal.returns
 returns c =
     let a = c.args in
     let e = c.from-l.ensures in
-    let f = c.first-w.ensures ∙ ap (λ u. first (line u)) e in
-    rw f
-    (silent-first (line (drop a.at a.t.now))
-    (sym (c.over.ensures ∙ ap (λ u. is_nil (line u)) e) ∙ c.if-over.false)
-    (λ z. c.if-w-eq0.false (ap length f ∙ z)))
+    let f = c.first.ensures ∙ ap (λ u. first (line u)) e in
+    rw (c.starts_with.ensures.value, f)
+    (silent-first (line (drop a.at a.t.now)) (sym (c.over.ensures ∙ ap (λ u. is_nil (line u)) e) ∙ c.if-over.false))
