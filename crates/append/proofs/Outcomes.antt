@@ -10,7 +10,6 @@ use Prim.Native.Nat.{ℕ}
 use lib.IntN.{ℤ}
 use Rattle.element.proofs.Refusals.{refused-unique, refused-accepted, refused-some}
 use Rattle.block.specs.Faults.{Fault}
-use Rattle.append.specs.declared.Started.{Started}
 use Rattle.append.specs.declared.Appended.{Appended}
 use Rattle.append.specs.Append.{append_codes, start_codes}
 use Rattle.append.specs.Calls.{IsStarted, Starts, NotAppended, IsAppended, Appends}
@@ -18,7 +17,7 @@ use Rattle.append.proofs.Orders.{append-some}
 
 -- ---- start
 module _ (b : List ℕ) where
-  pub starts-unique : (r s : Started) (a c : List ℕ) → Starts b r a → Starts b s c → (r ≡ s) × (a ≡ c)
+  pub starts-unique : (r s : Appended) (a c : List ℕ) → Starts b r a → Starts b s c → (r ≡ s) × (a ≡ c)
   starts-unique r s a c (inl p) (inl q) = (
     p.zeros ∙ ap (λ (n : ℕ). record { code = n; number = 0; used = 0 }) (refused-unique (start_codes b) r.code s.code p.refused q.refused)
         ∙ sym q.zeros,
@@ -28,13 +27,13 @@ module _ (b : List ℕ) where
   starts-unique r s a c (inr p) (inl q) = absurd (refused-accepted (start_codes b) s.code q.refused p.accepted)
   starts-unique r s a c (inr p) (inr q) = (p.answer ∙ sym q.answer, p.written ∙ sym q.written)
 
-  pub started-is : (r : Started) (a : List ℕ) → Starts b r a → r.code ≡ 0 → IsStarted b r a
+  pub started-is : (r : Appended) (a : List ℕ) → Starts b r a → r.code ≡ 0 → IsStarted b r a
   started-is r a (inl p) e = absurd (refused-some (start_codes b) r.code tt p.refused e)
   started-is r a (inr p) e = p
 
-  pub start-keeps : (r : Started) (a : List ℕ) → Starts b r a → ¬ (r.code ≡ 0) → a ≡ b
+  pub start-keeps : (r : Appended) (a : List ℕ) → Starts b r a → ¬ (r.code ≡ 0) → a ≡ b
   start-keeps r a (inl p) h = p.untouched
-  start-keeps r a (inr p) h = absurd (h (ap (λ (r : Started). r.code) p.answer))
+  start-keeps r a (inr p) h = absurd (h (ap (λ (r : Appended). r.code) p.answer))
 
 -- ---- append
 module _ (b : List ℕ) (used id n level : ℕ) (xs : List ℤ) where

@@ -33,7 +33,6 @@ use Rattle.block.specs.Faults.{lowest}
 use Rattle.block.specs.Calls.{Checks, fetched, Fetches}
 use Rattle.block.proofs.Blocks.{records-more, records-length, block-length, block-count, held-record}
 use Rattle.block.proofs.Demands.{checked-block, fetched-record}
-use Rattle.append.specs.declared.Started.{Started}
 use Rattle.append.specs.declared.Appended.{Appended}
 use Rattle.append.specs.Append.{new_record}
 use Rattle.append.specs.Calls.{IsStarted, with_count, IsAppended, Built, begun, grown}
@@ -167,11 +166,11 @@ module _ {v : ℕ} {b : List ℕ} {used id n level : ℕ} {xs : List ℤ} {r : A
   appended-rest = ap (drop (used + 80)) appended-bytes ∙ drop_at (block_bytes v all) (drop (used + 80) b) (used + 80) all-length
 
 -- ---- a run of calls
-empty_holds : (b a : List ℕ) (r : Started) → IsStarted b r a → Holds 1 (take r.used a) []
+empty_holds : (b a : List ℕ) (r : Appended) → IsStarted b r a → Holds 1 (take r.used a) []
 empty_holds b a r p =
     record {
       version = inl refl;
-      written = ap₂ (λ (m : ℕ) (s : List ℕ). take m s) (ap (λ (r : Started). r.used) p.answer) p.written;
+      written = ap₂ (λ (m : ℕ) (s : List ℕ). take m s) (ap (λ (r : Appended). r.used) p.answer) p.written;
       few = omega arith;
       formed = λ k i. absurd (N.not-suc-le-zero i);
       rise = λ k i. absurd (N.not-suc-le-zero i);

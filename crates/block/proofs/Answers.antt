@@ -1,12 +1,16 @@
 -- What the contracts of `check_block` and `fetch_record` come to: one outcome each.
 --   by-none, by-counted, by-unique : the answer of a check with any order of codes
+--   told         : the fault that a check's refusal names
+--   err-refused, refused-err, ok-counted, counted-ok : the result of a check, refused or with a count
 --   checks-none, checks-refused, checks-counted : the answer of `check_block`, by its code
 --   checks-unique  : it is determined by the bytes
 --   fetch-block, fetch-beyond, fetch-accepted, accepted-block, fetch-some : the order of `fetch_record`
 --   fetches-refused, fetches-none, fetches-is : the answer of a fetch, by its code
+--   fetches-told   : a fetch that answers the refusal of a fault
 --   fetches-unique : so is that of `fetch_record`
 --   stored-within  : the record k of bytes that are long enough
 -- Assumes nothing.
+use Rattle.std.proofs.Common.{Ok, Err}
 use mathlib.Core.Path.{◌≡◌, refl, sym, ap, ◌∙◌, subst}
 use mathlib.Core.List.{List}
 use mathlib.Core.Logic.{inl, inr, ⊎_elim}
@@ -18,18 +22,24 @@ use lib.Dec.{ltb}
 use lib.ListN.{length}
 use Rattle.element.specs.Refusals.{Codes, Refused, Accepted}
 use Rattle.element.proofs.Refusals.{refused-unique, refused-accepted, refused-some, refused-then, past-then, accepted-then, then-accepted, then-refused}
+use Rattle.faults.specs.Refusal.{number_of}
 use Rattle.record.specs.Record.{blank}
+use Rattle.record.proofs.Refusals.{some-number}
 use Rattle.block.specs.declared.Checked.{Checked}
 use Rattle.block.specs.declared.Fetched.{Fetched}
+use Rattle.block.specs.declared.Refused as answer
 use Rattle.block.specs.Block.{count_of, place, record_at}
 use Rattle.block.specs.Faults.{Fault, naming, block_codes, beyond_codes, fetch_codes}
-use Rattle.block.specs.Calls.{NoCount, Counted, ChecksBy, Checks, fetched, IsRecord, Fetches, stored_record}
+use Rattle.block.specs.Calls.{as_checked, as_fetched, NoCount, Counted, ChecksBy, Checks, fetched, IsRecord, Fetches, stored_record}
 use Rattle.block.proofs.Orders.{of-refused}
 use Rattle.block.proofs.Walk.{block-some}
 
 -- the answer that names a fault
 abbrev refusal : Fault → Checked
 refusal f = record { code = f.code; number = f.number; count = 0 }
+
+abbrev pub told : answer.Refused → Fault
+told e = record { code = number_of e.refusal; number = e.number }
 
 -- a check with the order o, none of whose faults has the code 0
 module _ (o : Codes Fault) (l : List ℕ) where
@@ -53,6 +63,21 @@ module _ (o : Codes Fault) (l : List ℕ) where
   by-unique r s (inl p) (inr q) = absurd (refused-accepted o (record { code = r.code; number = r.number }) p.refused q.accepted)
   by-unique r s (inr p) (inl q) = absurd (refused-accepted o (record { code = s.code; number = s.number }) q.refused p.accepted)
   by-unique r s (inr p) (inr q) = p.answer ∙ sym q.answer
+
+  -- ---- its result
+  pub err-refused : (e : answer.Refused) → ChecksBy o l (as_checked (Err e)) → Refused o (told e)
+  err-refused e q = (by-none (as_checked (Err e)) q (some-number e.refusal)).refused
+
+  pub refused-err : (e : answer.Refused) → Refused o (told e) → ChecksBy o l (as_checked (Err e))
+  refused-err e r = inl (record { refused = r; no_count = refl })
+
+  pub ok-counted : ((f : Fault) → Refused o f → ¬ (f.code ≡ 0)) → (n : ℕ) → ChecksBy o l (as_checked (Ok n)) → Accepted o × (n ≡ count_of l)
+  ok-counted some n q =
+      let p = by-counted some (as_checked (Ok n)) q refl in
+      (p.accepted, ap (λ (r : Checked). r.count) p.answer)
+
+  pub counted-ok : (n : ℕ) → Accepted o → n ≡ count_of l → ChecksBy o l (as_checked (Ok n))
+  counted-ok n a e = inr (record { accepted = a; answer = ap (λ (n : ℕ). record { code = 0; number = 0; count = n }) e })
 
 module _ (l : List ℕ) where
   pub checks-none : (r : Checked) → Checks l r → ¬ (r.code ≡ 0) → NoCount (block_codes l) r
@@ -89,6 +114,9 @@ module _ (l : List ℕ) (k : ℕ) where
 
   pub fetches-refused : (c n : ℕ) (r : Fetched) → r ≡ fetched c n blank → Refused (fetch_codes l k) (record { code = c; number = n }) → Fetches l k r
   fetches-refused c n r e q = subst (Fetches l k) (sym e) (inl (record { refused = q; no_record = refl }))
+
+  pub fetches-told : (e : answer.Refused) → Refused (fetch_codes l k) (told e) → Fetches l k (as_fetched (Err e))
+  fetches-told e q = inl (record { refused = q; no_record = refl })
 
   pub fetches-none : (r : Fetched) → Fetches l k r → ¬ (r.code ≡ 0) → Refused (fetch_codes l k) (record { code = r.code; number = r.number })
   fetches-none r (inl p) h = p.refused

@@ -1,6 +1,5 @@
 -- The header of a block, test by test.
 --   other-mark   : a letter of the mark that is another
---   marked       : the three letters
 --   long-enough, one-or-two, not-other : the length, and the version
 --   header-long, header-marked, header-version, header-few, header-size : what a header without a fault says
 -- Assumes nothing.
@@ -31,10 +30,6 @@ mark_of (a ∷ []) h = absurd (omega arith)
 mark_of (a ∷ b ∷ []) h = absurd (omega arith)
 mark_of (a ∷ b ∷ c ∷ []) h = refl
 mark_of (a ∷ b ∷ c ∷ d ∷ l) h = refl
-
-pub marked : (l : List ℕ) → 9 ≤ length l → get_or l 0 0 ≡ 67 → get_or l 1 0 ≡ 69 → get_or l 2 0 ≡ 76 → ¬ NotBlock l
-marked l h c e f (inl s) = N.not-le_of_lt s h
-marked l h c e f (inr n) = n (mark_of l h ∙ rw (c, e, f) refl)
 
 pub one-or-two : (v : ℕ) → 1 ≤ v → v ≤ 2 → Version v
 one-or-two v h i = go (dec_le v 1)

@@ -18,10 +18,8 @@ pub fn weighed(row: &[u8], c: &[i64]) -> i64
     ensures { result ≡ dot row.now c.now }
 {
     let mut sum = 0;
-    let mut k = 0;
-    while k < row.len() {
-        sum = sum + signed(row[k]) * c[k];
-        k += 1;
+    for k in 0..row.len() {
+        sum += signed(row[k]) * c[k];
     }
     sum
 }
@@ -31,10 +29,8 @@ pub fn none_negative(c: &[i64]) -> bool
     ensures { result ≡ non_negatives c.now }
 {
     let mut none = true;
-    let mut k = 0;
-    while k < c.len() {
-        none = none & (0 <= c[k]);
-        k += 1;
+    for x in c {
+        none &= 0 <= *x;
     }
     none
 }

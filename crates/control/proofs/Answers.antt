@@ -26,7 +26,10 @@ use Rattle.quad.specs.Points.{quad_kind}
 use Rattle.control.specs.Calls.{controlled, Handed, ControlValues, BoundsOf, SolverBounds}
 use Rattle.control.specs.declared.Controlled.{Controlled}
 use Rattle.control.specs.declared.Bounds.{Bounds}
-use Rattle.control.specs.declared.Bounded.TheVariants.{Both, Code}
+use Rattle.faults.specs.declared.refusal.Refusal.{Refusal}
+use Rattle.faults.specs.Refusal.{number_of}
+use Rattle.faults.proofs.Refusals.{number-some}
+use Rattle.std.specs.Prelude.{Ok, Err}
 
 pub six-values : (n : ℕ) (xs : List ℤ) → n ≡ 6 → values6 xs ≡ control_values (kind_of n) xs
 unfolding control_values
@@ -103,12 +106,12 @@ some ten = lit< tt
 pub values-many : (n : ℕ) (xs : List ℤ) {values : List ℤ} → values ≡ control_values (kind_of n) xs → 0 < length values
 values-many n xs e = rw e (rw (values_length (kind_of n) xs) (some (kind_of n)))
 
-pub bounds-refused : (n : ℕ) (xs : List ℤ) (c : ℕ) → Coded (bounds_codes n xs) c → ¬ (c ≡ 0) → SolverBounds n xs (Code c)
-bounds-refused n xs c p h = inl (record { refused = coded-some p h; no_number = refl; no_lo = refl; no_hi = refl })
+pub bounds-refused : (n : ℕ) (xs : List ℤ) (e : Refusal) → Coded (bounds_codes n xs) (number_of e) → SolverBounds n xs (Err e)
+bounds-refused n xs e p = inl (record { refused = coded-some p (number-some e); no_number = refl; no_lo = refl; no_hi = refl })
 
 pub bounds-told : (n : ℕ) (xs : List ℤ) {values : List ℤ} {b : Bounds}
     → Accepted (bounds_codes n xs)
     → values ≡ control_values (kind_of n) xs
     → BoundsOf values b
-    → SolverBounds n xs (Both b)
+    → SolverBounds n xs (Ok b)
 bounds-told n xs {values} {b} a e p = inr (record { accepted = a; told = tt; no_code = refl; no_number = refl; bounds = subst (λ v. BoundsOf v b) e p })

@@ -14,9 +14,8 @@ use Rattle.element.specs.Cubic.{J10, values10}
 use Rattle.element.specs.Control.{control_values}
 use Rattle.element.specs.Refusals.{Refused, Accepted, control_codes}
 use Rattle.floats.specs.Values.{IsWhole}
-use Rattle.control.specs.Calls.{controlled, ControlValues, bounds_of, Told, SolverBounds}
+use Rattle.control.specs.Calls.{Bounded, controlled, ControlValues, bounds_of, Told, SolverBounds}
 use Rattle.control.specs.declared.Controlled.{Controlled}
-use Rattle.control.specs.declared.Bounded.{Bounded}
 use Rattle.control.proofs.Outcomes.{bounds-bracket}
 
 pub ten-filled : (xs before : List ℤ) (r : Controlled) (after : List ℤ) → ControlValues 10 xs before r after

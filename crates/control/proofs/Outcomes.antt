@@ -19,11 +19,11 @@ use Rattle.element.specs.Refusals.{control_codes, bounds_codes}
 use Rattle.element.proofs.Refusals.{refused-unique, refused-accepted, refused-some}
 use Rattle.element.proofs.Bounds.{least-unique, greatest-unique, bounds-between}
 use Rattle.floats.specs.Values.{exact}
-use Rattle.control.specs.Calls.{controlled, ControlValues, code_of, bounds_of, Told, BoundsOf, NoBounds, HasBounds, SolverBounds, Brackets}
+use Rattle.control.specs.Calls.{Bounded, controlled, ControlValues, code_of, bounds_of, Told, BoundsOf, NoBounds, HasBounds, SolverBounds, Brackets}
 use Rattle.control.specs.declared.Controlled.{Controlled}
 use Rattle.control.specs.declared.Bounds.{Bounds}
-use Rattle.control.specs.declared.Bounded.{Bounded}
-use Rattle.control.specs.declared.Bounded.TheVariants.{Both, Code}
+use Rattle.faults.proofs.Refusals.{number-one}
+use Rattle.std.specs.Prelude.{Ok, Err}
 use Rattle.control.proofs.Answers.{values-small}
 use Rattle.control.proofs.Running.{least-within, greatest-within}
 use Rattle.floats.proofs.Whole.{exact-is}
@@ -56,18 +56,18 @@ bounds-of-unique c a b p q =
 
 module _ (n : ℕ) (xs : List ℤ) where
   -- a refusal is not the case with bounds: no fault has the code 0
-  not-coded : (b : Bounds) → NoBounds n xs (Both b) → ⊥
+  not-coded : (b : Bounds) → NoBounds n xs (Ok b) → ⊥
   not-coded b p = refused-some (bounds_codes n xs) 0 tt p.refused refl
 
   coded : (r s : Bounded) → NoBounds n xs r → NoBounds n xs s → r ≡ s
-  coded (Code c) (Code d) p q = ap Code (refused-unique (bounds_codes n xs) c d p.refused q.refused)
-  coded (Code c) (Both b) p q = absurd (not-coded b q)
-  coded (Both b) s p q = absurd (not-coded b p)
+  coded (Err e) (Err f) p q = ap Err (number-one (refused-unique (bounds_codes n xs) _ _ p.refused q.refused))
+  coded (Err e) (Ok b) p q = absurd (not-coded b q)
+  coded (Ok b) s p q = absurd (not-coded b p)
 
   told : (r s : Bounded) → HasBounds n xs r → HasBounds n xs s → r ≡ s
-  told (Both a) (Both b) p q = ap Both (bounds-of-unique (control_values (kind_of n) xs) a b p.bounds q.bounds)
-  told (Both a) (Code d) p q = absurd q.told
-  told (Code c) s p q = absurd p.told
+  told (Ok a) (Ok b) p q = ap Ok (bounds-of-unique (control_values (kind_of n) xs) a b p.bounds q.bounds)
+  told (Ok a) (Err e) p q = absurd q.told
+  told (Err e) s p q = absurd p.told
 
   pub solver-bounds-unique : (r s : Bounded) → SolverBounds n xs r → SolverBounds n xs s → r ≡ s
   solver-bounds-unique r s (inl p) (inl q) = coded r s p q
@@ -76,9 +76,9 @@ module _ (n : ℕ) (xs : List ℤ) where
   solver-bounds-unique r s (inr p) (inr q) = told r s p q
 
   pub bounds-bracket : (r : Bounded) → SolverBounds n xs r → Told r → Brackets n xs (bounds_of r)
-  bounds-bracket (Code c) p t = absurd t
-  bounds-bracket (Both b) (inl p) t = absurd (not-coded b p)
-  bounds-bracket (Both b) (inr p) t =
+  bounds-bracket (Err e) p t = absurd t
+  bounds-bracket (Ok b) (inl p) t = absurd (not-coded b p)
+  bounds-bracket (Ok b) (inr p) t =
       let q = p.bounds in
       let small = values-small n xs p.accepted refl in
       record {

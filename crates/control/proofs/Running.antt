@@ -21,10 +21,10 @@ use Rattle.element.specs.Control.{at}
 use Rattle.element.specs.Bounds.{Least, Greatest}
 
 abbrev pub lesser : ℤ → ℤ → ℤ
-lesser a b = cond (lt_z a b) a b
+lesser a b = cond (lt_z b a) b a
 
 abbrev pub greater : ℤ → ℤ → ℤ
-greater a b = cond (lt_z a b) b a
+greater a b = cond (lt_z b a) a b
 
 pub record LeastTo (k : ℕ) (c : List ℤ) (z : ℤ) : Type 0 where
   pub place : ℕ
@@ -54,34 +54,34 @@ greatest-one c = record { place = 0; before = lit< tt; there = refl; above = fir
 
 pub least_more : {k : ℕ} {c : List ℤ} {z : ℤ} → LeastTo k c z → LeastTo (k + 1) c (lesser z (at c k))
 least_more {k} {c} {z} p =
-    cond_ind (lt_z z (at c k)) z (at c k) (λ y. LeastTo (k + 1) c y)
-    (λ t. record {
-      place = p.place;
-      before = omega (arith, p.before);
-      there = p.there;
-      below = below_more _ k p.below (<-≤ (lt_z_yes t));
-    })
+    cond_ind (lt_z (at c k) z) (at c k) z (λ y. LeastTo (k + 1) c y)
     (λ t. record {
       place = k;
       before = omega arith;
       there = refl;
-      below = below_more _ k (λ i h. ≤_trans (lt_z_no t) (p.below i h)) (≤ℤ_refl (at c k));
+      below = below_more _ k (λ i h. ≤_trans (<-≤ (lt_z_yes t)) (p.below i h)) (≤ℤ_refl (at c k));
+    })
+    (λ t. record {
+      place = p.place;
+      before = omega (arith, p.before);
+      there = p.there;
+      below = below_more _ k p.below (lt_z_no t);
     })
 
 pub greatest-more : {k : ℕ} {c : List ℤ} {z : ℤ} → GreatestTo k c z → GreatestTo (k + 1) c (greater z (at c k))
 greatest-more {k} {c} {z} p =
-    cond_ind (lt_z z (at c k)) (at c k) z (λ y. GreatestTo (k + 1) c y)
-    (λ t. record {
-      place = k;
-      before = omega arith;
-      there = refl;
-      above = below_more _ k (λ i h. ≤_trans (p.above i h) (<-≤ (lt_z_yes t))) (≤ℤ_refl (at c k));
-    })
+    cond_ind (lt_z (at c k) z) z (at c k) (λ y. GreatestTo (k + 1) c y)
     (λ t. record {
       place = p.place;
       before = omega (arith, p.before);
       there = p.there;
-      above = below_more _ k p.above (lt_z_no t);
+      above = below_more _ k p.above (<-≤ (lt_z_yes t));
+    })
+    (λ t. record {
+      place = k;
+      before = omega arith;
+      there = refl;
+      above = below_more _ k (λ i h. ≤_trans (p.above i h) (lt_z_no t)) (≤ℤ_refl (at c k));
     })
 
 pub least-all : {k : ℕ} {c : List ℤ} {z : ℤ} → LeastTo k c z → k ≡ length c → Least c z

@@ -4,6 +4,7 @@
 --   Handed c before r after == the values c stand at the buffer's start, and their number is told; or they do not fit
 --   NoValues, Values n xs before r after == a refusal, and a success, of `control_values`
 --   ControlValues n xs before r after    == the one or the other
+--   Bounded                == the answer of `solver_bounds`: two bounds, or a refusal
 --   code_of, number_of, bounds_of r == 01's code, record number and two bounds, for each case of the answer of `solver_bounds`
 --   Told r                 == the answer is in the case with the bounds
 --   BoundsOf c b           == b are the least and the greatest of the values c
@@ -12,7 +13,7 @@
 --   Brackets n xs b        == b are whole numbers, and the scaled J lies between them everywhere
 -- n is the number given as the kind, xs the coordinate list, r the answer, before and after the buffer's content.
 -- Definitions only.
-use Rattle.std.specs.Prelude.{◌≡◌, List, ◌++◌, ◌⊎◌, ℕ, ◌<◌, ℤ, pos, length, drop}
+use Rattle.std.specs.Prelude.{◌≡◌, Result, Ok, Err, List, ◌++◌, ◌⊎◌, ℕ, ◌<◌, ℤ, pos, length, drop}
 use Rattle.element.specs.Kinds.{kind_of, value_count}
 use Rattle.element.specs.Places.{Place}
 use Rattle.element.specs.Control.{control_values}
@@ -21,8 +22,8 @@ use Rattle.element.specs.Refusals.{Refused, Accepted, control_codes, bounds_code
 use Rattle.floats.specs.Values.{IsWhole, exact}
 use Rattle.control.specs.declared.Controlled.{Controlled}
 use Rattle.control.specs.declared.Bounds.{Bounds}
-use Rattle.control.specs.declared.Bounded.{Bounded}
-use Rattle.control.specs.declared.Bounded.TheVariants.{Both, Code}
+use Rattle.faults.specs.declared.refusal.Refusal.{Refusal}
+use Rattle.faults.specs.Refusal.{number_of as refusal_number}
 
 -- ---- control values
 -- "the record number for faults in a stored record (else 0)": no record is stored here
@@ -51,23 +52,26 @@ abbrev pub ControlValues : ℕ → List ℤ → List ℤ → Controlled → List
 ControlValues n xs before r after = NoValues n xs before r after ⊎ Values n xs before r after
 
 -- ---- bounds: "The answer is two f64 bounds or a code"
+abbrev pub Bounded : Type 0
+Bounded = Result Bounds Refusal
+
 abbrev pub code_of : Bounded → ℕ
-code_of (Both b) = 0
-code_of (Code c) = c
+code_of (Ok b) = 0
+code_of (Err e) = refusal_number e
 
 -- the record number, as above
 abbrev pub number_of : Bounded → ℕ
-number_of (Both b) = 0
-number_of (Code c) = 0
+number_of (Ok b) = 0
+number_of (Err e) = 0
 
 -- zero in all other fields of a refusal
 abbrev pub bounds_of : Bounded → Bounds
-bounds_of (Both b) = b
-bounds_of (Code c) = record { lo = exact (pos 0); hi = exact (pos 0) }
+bounds_of (Ok b) = b
+bounds_of (Err e) = record { lo = exact (pos 0); hi = exact (pos 0) }
 
 abbrev pub Told : Bounded → Type 0
-Told (Both b) = Unit {0}
-Told (Code c) = ⊥
+Told (Ok b) = Unit {0}
+Told (Err e) = ⊥
 
 -- codes 1, 3, 4, 21, and zero in all other fields
 pub record NoBounds (n : ℕ) (xs : List ℤ) (r : Bounded) : Type 0 where

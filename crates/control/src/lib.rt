@@ -8,6 +8,7 @@ ghost use Rattle.element.specs.Bounds.{Least, Greatest};
 ghost use Rattle.control.specs.Calls.{controlled, Handed, ControlValues, BoundsOf, SolverBounds};
 
 use faults::element_code;
+use faults::refusal::Refusal;
 
 // The code, the record number, and the number of values at the buffer's start.
 #[derive(Clone, Copy)]
@@ -24,23 +25,12 @@ pub struct Bounds {
     pub hi: f64,
 }
 
-// Two bounds, or the code of a refusal.
-#[derive(Clone, Copy)]
-pub enum Bounded {
-    Both(Bounds),
-    Code(u8),
-}
-
 // Copies the values to the buffer's start.
 fn put(out: &mut [i64], values: &[i64])
     requires { length values.now ≤ length out.old }
     ensures { out.new ≡ values.now ++ drop (length values.now) out.old }
 {
-    let mut k = 0;
-    while k < values.len() {
-        out[k] = values[k];
-        k += 1;
-    }
+    out[..values.len()].copy_from_slice(values);
 }
 
 // An answer without a record number: no record is stored here.
@@ -69,9 +59,8 @@ fn hand(out: &mut [i64], values: &[i64]) -> Controlled
 pub fn control_values(kind: u8, coords: &[i32], out: &mut [i64]) -> Controlled
     ensures { ControlValues kind coords.now out.old result out.new }
 {
-    let code = element_code(kind, coords);
-    if code != 0 {
-        return answer(code, 0);
+    if let Err(refusal) = element_code(kind, coords) {
+        return answer(refusal.number(), 0);
     }
     if kind == 6 {
         return hand(out, &triangle::values(coords));
@@ -82,16 +71,6 @@ pub fn control_values(kind: u8, coords: &[i32], out: &mut [i64]) -> Controlled
     hand(out, &quad::values(coords, kind == 8))
 }
 
-// The first number if the test holds, else the second.
-fn either(test: bool, a: i64, b: i64) -> i64
-    ensures { result ≡ cond test a b }
-{
-    if test {
-        return a;
-    }
-    b
-}
-
 // The least and the greatest of some numbers.
 fn extremes(c: &[i64]) -> [i64; 2]
     requires { 0 < length c.now }
@@ -100,12 +79,9 @@ fn extremes(c: &[i64]) -> [i64; 2]
 {
     let mut lo = c[0];
     let mut hi = c[0];
-    let mut k = 1;
-    while k < c.len() {
-        let x = c[k];
-        lo = either(lo < x, lo, x);
-        hi = either(hi < x, x, hi);
-        k += 1;
+    for k in 1..c.len() {
+        lo = lo.min(c[k]);
+        hi = hi.max(c[k]);
     }
     [lo, hi]
 }
@@ -124,21 +100,18 @@ fn bounds_of(c: &[i64]) -> Bounds
 }
 
 // Two numbers between which scaled J lies at every point of the element.
-pub fn solver_bounds(kind: u8, coords: &[i32]) -> Bounded
+pub fn solver_bounds(kind: u8, coords: &[i32]) -> Result<Bounds, Refusal>
     ensures { SolverBounds kind coords.now result }
 {
-    let code = element_code(kind, coords);
-    if code != 0 {
-        return Bounded::Code(code);
-    }
+    element_code(kind, coords)?;
     if kind == 6 {
         let values = triangle::values(coords);
-        return Bounded::Both(bounds_of(&values));
+        return Ok(bounds_of(&values));
     }
     if kind == 10 {
         let values = cubic::values(coords);
-        return Bounded::Both(bounds_of(&values));
+        return Ok(bounds_of(&values));
     }
     let values = quad::values(coords, kind == 8);
-    Bounded::Both(bounds_of(&values))
+    Ok(bounds_of(&values))
 }

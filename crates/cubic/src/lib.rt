@@ -249,11 +249,9 @@ fn combine(x: &[i64; 10], y: &[i64; 10]) -> [i64; 15]
     ensures { result ≡ spec.combine10 x.now y.now }
 {
     let mut c = [0; 15];
-    let mut n = 0;
-    while n < 15 {
+    for n in 0..15 {
         let d = degrees(n);
         c[n] = value(x, y, d[0], d[1], d[2]);
-        n += 1;
     }
     c
 }

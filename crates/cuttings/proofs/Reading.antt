@@ -16,12 +16,11 @@ use lib.IntN.{ℤ}
 use lib.ListN.{length, drop, get_or}
 use lib.Seq.{drop-cons}
 use Rattle.algebra.proofs.Truth.{true-T, T_false}
+use Rattle.std.specs.Prelude.{Option, Some, None}
 use Rattle.forms.specs.Cuttings.{Four, four_of, Cutting, keep, cut, depth, Fits}
 use Rattle.forms.specs.Shapes.{Shape, pass, cut_to}
 use Rattle.cuttings.specs.Bytes.{cutting_bytes}
 use Rattle.cuttings.specs.Reads.{Reads, InTurn, quarters_from, Checked}
-use Rattle.cuttings.specs.declared.Read.{Read}
-use Rattle.cuttings.specs.declared.Read.TheVariants.{Next, Failed}
 use Rattle.cuttings.proofs.Bytes.{bytes-unique, bytes_cut, bytes-keep, head-is, tail-is}
 
 pub from_more : (i : ℕ) → i < 4 → quarters_from i ≡ four_of i ∷ quarters_from (i + 1)
@@ -112,61 +111,61 @@ module _ (S : Shape) where
     abbrev Cell : List ℕ → Type 0
     Cell rest = Reads S n v (drop at l) rest
 
-    pub ended : length l ≤ at → Checked Cell l Failed
+    pub ended : length l ≤ at → Checked Cell l None
     ended h rest p = nothing-reads n v rest (subst (λ (m : List ℕ). Reads S n v m rest) (past_end l at h) p)
 
     by_byte : {x : ℕ} → at < length l → get_or l at 0 ≡ x → drop at l ≡ x ∷ drop (at + 1) l
     by_byte h e = at_place l at h ∙ ap (λ (x : ℕ). x ∷ drop (at + 1) l) e
 
-    pub kept : at < length l → get_or l at 0 ≡ 0 → pass S v ≡ true → Checked Cell l (Next (at + 1))
+    pub kept : at < length l → get_or l at 0 ≡ 0 → pass S v ≡ true → Checked Cell l (Some (at + 1))
     unfolding depth
     kept h e t = (omega arith, record { cutting = keep; fits = true-T t; within = zero-le; bytes = by_byte h e ∙ sym (bytes-keep (drop (at + 1) l)) })
 
-    pub not-kept : at < length l → get_or l at 0 ≡ 0 → pass S v ≡ false → Checked Cell l Failed
+    pub not-kept : at < length l → get_or l at 0 ≡ 0 → pass S v ≡ false → Checked Cell l None
     not-kept h e t rest p = T_false (pass S v) t (zero-reads n v (drop (at + 1) l) rest (subst (λ (m : List ℕ). Reads S n v m rest) (by_byte h e) p))
 
-    pub other_byte : at < length l → ¬ (get_or l at 0 ≡ 0) → ¬ (get_or l at 0 ≡ 1) ⊎ (n ≡ 0) → Checked Cell l Failed
+    pub other_byte : at < length l → ¬ (get_or l at 0 ≡ 0) → ¬ (get_or l at 0 ≡ 1) ⊎ (n ≡ 0) → Checked Cell l None
     other_byte h f k rest p =
         other-reads n v (get_or l at 0) (drop (at + 1) l) rest f k (subst (λ (m : List ℕ). Reads S n v m rest) (at_place l at h) p)
 
-    pub quartered : (r : Read) → at < length l → get_or l at 0 ≡ 1 → ¬ (n ≡ 0)
+    pub quartered : (r : Option ℕ) → at < length l → get_or l at 0 ≡ 1 → ¬ (n ≡ 0)
         → Checked (λ rest. InTurn S (n - 1) v (quarters_from 0) (drop (at + 1) l) rest) l r
         → Checked Cell l r
-    quartered (Next b) h e k (w, p) =
+    quartered (Some b) h e k (w, p) =
         let f : n ≡ suc (n - 1) = omega arith in (
           w,
           subst (λ (m : List ℕ). Reads S n v m (drop b l)) (sym (by_byte h e))
               (subst (λ (m : ℕ). Reads S m v (1 ∷ drop (at + 1) l) (drop b l)) (sym f) (reads-one-more (n - 1) v (drop (at + 1) l) (drop b l) p)),
         )
-    quartered Failed h e k p = λ rest q. p rest (one-reads n v (drop (at + 1) l) rest (subst (λ (m : List ℕ). Reads S n v m rest) (by_byte h e) q))
+    quartered None h e k p = λ rest q. p rest (one-reads n v (drop (at + 1) l) rest (subst (λ (m : List ℕ). Reads S n v m rest) (by_byte h e) q))
 
   -- ---- the quarters from i on
   module _ (n : ℕ) (v : List ℤ) (l : List ℕ) (at i : ℕ) where
     abbrev Rest : List ℕ → Type 0
     Rest rest = InTurn S n v (quarters_from i) (drop at l) rest
 
-    pub none_left : i ≡ 4 → at ≤ length l → Checked Rest l (Next at)
+    pub none_left : i ≡ 4 → at ≤ length l → Checked Rest l (Some at)
     none_left e h = (h, rw e refl)
 
     -- what the checker of quarter i answered, by the arm of the code
-    pub answered : (w : List ℤ) {r s : Read} → r ≡ s → Checked (λ rest. Reads S n w (drop at l) rest) l r → Checked (λ rest. Reads S n w (drop at l) rest) l s
-    answered w e p = subst (λ (r : Read). Checked (λ rest. Reads S n w (drop at l) rest) l r) e p
+    pub answered : (w : List ℤ) {r s : Option ℕ} → r ≡ s → Checked (λ rest. Reads S n w (drop at l) rest) l r → Checked (λ rest. Reads S n w (drop at l) rest) l s
+    answered w e p = subst (λ (r : Option ℕ). Checked (λ rest. Reads S n w (drop at l) rest) l r) e p
 
-    pub one-failed : {w : List ℤ} → i < 4 → w ≡ cut_to S (four_of i) v → Checked (λ rest. Reads S n w (drop at l) rest) l Failed → Checked Rest l Failed
+    pub one-failed : {w : List ℤ} → i < 4 → w ≡ cut_to S (four_of i) v → Checked (λ rest. Reads S n w (drop at l) rest) l None → Checked Rest l None
     one-failed h e p rest q =
         let (m, r, s) = subst (λ (qs : List Four). InTurn S n v qs (drop at l) rest) (from_more i h) q in
         p m (subst (λ (w : List ℤ). Reads S n w (drop at l) m) (sym e) r)
 
-    pub one_more : {w : List ℤ} (b : ℕ) (r : Read) → i < 4 → w ≡ cut_to S (four_of i) v
-        → Checked (λ rest. Reads S n w (drop at l) rest) l (Next b)
+    pub one_more : {w : List ℤ} (b : ℕ) (r : Option ℕ) → i < 4 → w ≡ cut_to S (four_of i) v
+        → Checked (λ rest. Reads S n w (drop at l) rest) l (Some b)
         → Checked (λ rest. InTurn S n v (quarters_from (i + 1)) (drop b l) rest) l r
         → Checked Rest l r
-    one_more b (Next d) h e (k, p) (j, q) = (
+    one_more b (Some d) h e (k, p) (j, q) = (
       j,
       subst (λ (qs : List Four). InTurn S n v qs (drop at l) (drop d l)) (sym (from_more i h))
           (drop b l, subst (λ (w : List ℤ). Reads S n w (drop at l) (drop b l)) e p, q),
     )
-    one_more b Failed h e (k, p) q = λ rest u.
+    one_more b None h e (k, p) q = λ rest u.
         let (m, r, s) = subst (λ (qs : List Four). InTurn S n v qs (drop at l) rest) (from_more i h) u in
         q rest (subst (λ (x : List ℕ). InTurn S n v (quarters_from (i + 1)) x rest)
         (reads-one r (subst (λ (w : List ℤ). Reads S n w (drop at l) (drop b l)) e p)) s)

@@ -4,12 +4,10 @@
 --   quarters_from i     == the quarters from quarter i on, in 01's order
 --   Checked P l r      == r is a place in l behind which the bytes are such that P holds of them, or P holds of no bytes
 -- Definitions only.
-use Rattle.std.specs.Prelude.{◌≡◌, List, [], ◌∷◌, ◌++◌, ℕ, zero, suc, ◌≤◌, ℤ, length, drop}
+use Rattle.std.specs.Prelude.{◌≡◌, Option, Some, None, List, [], ◌∷◌, ◌++◌, ℕ, zero, suc, ◌≤◌, ℤ, length, drop}
 use Rattle.forms.specs.Cuttings.{Four, first, second, third, fourth, Cutting, depth, Fits}
 use Rattle.forms.specs.Shapes.{Shape, pass, cut_to}
 use Rattle.cuttings.specs.Bytes.{cutting_bytes}
-use Rattle.cuttings.specs.declared.Read.{Read}
-use Rattle.cuttings.specs.declared.Read.TheVariants.{Next, Failed}
 
 module _ (S : Shape) where
   pub record Reads (n : ℕ) (v : List ℤ) (l rest : List ℕ) : Type 0 where
@@ -29,6 +27,6 @@ quarters_from (suc (suc zero)) = third ∷ fourth ∷ []
 quarters_from (suc (suc (suc zero))) = fourth ∷ []
 quarters_from (suc (suc (suc (suc i)))) = []
 
-abbrev pub Checked : (List ℕ → Type 0) → List ℕ → Read → Type 0
-Checked P l (Next b) = (b ≤ length l) × P (drop b l)
-Checked P l Failed = (rest : List ℕ) → ¬ P rest
+abbrev pub Checked : (List ℕ → Type 0) → List ℕ → Option ℕ → Type 0
+Checked P l (Some b) = (b ≤ length l) × P (drop b l)
+Checked P l None = (rest : List ℕ) → ¬ P rest

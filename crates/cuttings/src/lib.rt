@@ -1,9 +1,2 @@
-// Cuttings as bytes (02, Ask 5): what reading one answers.
+// Cuttings as bytes (02, Ask 5): definitions and proofs alone.
 #![tactic(auto)]
-
-// The place after what was read, or a failure.
-#[derive(Clone, Copy)]
-pub enum Read {
-    Next(usize),
-    Failed,
-}

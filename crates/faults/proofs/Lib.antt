@@ -1,2 +1,4 @@
 pub mod Limits
+pub mod Meant
 pub mod Pairs
+pub mod Refusals

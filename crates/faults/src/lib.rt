@@ -3,7 +3,7 @@
 #![tactic(auto)]
 
 ghost use Rattle.std.specs.Prelude.{◌≡◌, true, false, [], ◌∷◌, ◌+◌, ◌*◌, ◌<◌, length};
-ghost use Rattle.element.specs.Kinds.{NotStored, NotKind, kind_of, greatest_level};
+ghost use Rattle.element.specs.Kinds.{NotStored, kind_of, greatest_level};
 ghost use Rattle.element.specs.Corners.{SamePlace, SameTwo};
 ghost use Rattle.element.specs.Refusals.{
   no_more,
@@ -16,11 +16,14 @@ ghost use Rattle.element.specs.Refusals.{
   stored_codes,
   six_codes,
 };
+ghost use Rattle.faults.specs.Kinds.{nodes_of, meant};
 ghost use Rattle.faults.specs.Nodes.{corner_codes};
 ghost use Rattle.faults.specs.Refusal.{code_of};
 
+pub mod kind;
 pub mod refusal;
 
+use crate::kind::Kind;
 use crate::refusal::Refusal;
 use points::ranged;
 
@@ -29,37 +32,17 @@ pub fn stored(kind: u8) -> bool
     ensures yes { result ≡ true → ¬ NotStored kind }
     ensures no { result ≡ false → NotStored kind }
 {
-    if kind == 6 {
-        return true;
-    }
-    if kind == 8 {
-        return true;
-    }
-    kind == 9
+    matches!(kind, 6 | 8 | 9)
 }
 
-// Whether there is a kind of that many nodes.
-fn known(kind: u8) -> bool
-    ensures yes { result ≡ true → ¬ NotKind kind }
-    ensures no { result ≡ false → NotKind kind }
-{
-    if stored(kind) {
-        return true;
-    }
-    kind == 10
-}
-
-// The greatest level of the kind.
+// The greatest level of the kind of that many nodes.
 pub fn greatest_level(kind: u8) -> u8
     ensures { result ≡ greatest_level (kind_of kind) }
 {
-    if kind == 6 {
-        return 10;
+    match Kind::try_from(kind) {
+        Ok(k) => k.greatest_level(),
+        Err(_) => 4,
     }
-    if kind == 10 {
-        return 5;
-    }
-    4
 }
 
 // Whether the nodes a and b stand at one place.
@@ -113,7 +96,7 @@ fn four(coords: &[i32], a: usize, b: usize, c: usize, d: usize) -> bool
     same_place(coords, b, c)
 }
 
-// Code 4 or 21, or 0, of a triangle's nodes. Each limit stands in a call, so that none is looked up for a coordinate.
+// Refusal 4 or 21, or none, of a triangle's nodes. Each limit stands in a call, so that none is looked up for a coordinate.
 fn triangle_code(coords: &[i32], limit: u32) -> Result<(), Refusal>
     requires { (limit < 2147483648) × (5 < length coords.now) }
     ensures { Coded (corner_codes limit (0 ∷ 1 ∷ 2 ∷ []) coords.now) (code_of result) }
@@ -141,66 +124,53 @@ fn quad_code(coords: &[i32], c: usize, d: usize) -> Result<(), Refusal>
     Ok(())
 }
 
-// Code 4 or 21, or 0.
-pub fn node_code(kind: u8, coords: &[i32]) -> Result<(), Refusal>
-    requires { ¬ NotKind kind × (length coords.now ≡ 2 * kind) }
-    ensures { Coded (node_codes (kind_of kind) coords.now no_more) (code_of result) }
-{
-    if kind == 6 {
-        return triangle_code(coords, 65536);
+impl Kind {
+    // Refusal 4 or 21, or none, of the nodes of an element of the kind.
+    pub fn node_code(self, coords: &[i32]) -> Result<(), Refusal>
+        requires { length coords.now ≡ 2 * nodes_of self }
+        ensures { Coded (node_codes (meant self) coords.now no_more) (code_of result) }
+    {
+        match self {
+            Kind::Six => triangle_code(coords, 65536),
+            Kind::Eight => quad_code(coords, 5, 7),
+            Kind::Nine => quad_code(coords, 6, 8),
+            Kind::Ten => triangle_code(coords, 1024),
+        }
     }
-    if kind == 8 {
-        return quad_code(coords, 5, 7);
+
+    // Refusal 3, 4 or 21, or none, of its coordinate list.
+    pub fn list_code(self, coords: &[i32]) -> Result<(), Refusal>
+        ensures { Coded (element_codes (nodes_of self) coords.now no_more) (code_of result) }
+    {
+        if coords.len() != 2 * self.nodes() {
+            return Err(Refusal::Length);
+        }
+        self.node_code(coords)
     }
-    if kind == 10 {
-        return triangle_code(coords, 1024);
+
+    // Refusal 2, 3, 4 or 21, or none.
+    fn level_code(self, limit: u8, coords: &[i32]) -> Result<(), Refusal>
+        ensures { Coded (level_codes (nodes_of self) limit coords.now) (code_of result) }
+    {
+        if self.greatest_level() < limit {
+            return Err(Refusal::Level);
+        }
+        self.list_code(coords)
     }
-    quad_code(coords, 6, 8)
 }
 
-// Code 3, 4 or 21, or 0. A triangle's kind stands in its call, so that no loop over its coordinates is left.
-pub fn list_code(kind: u8, coords: &[i32]) -> Result<(), Refusal>
-    requires { ¬ NotKind kind }
-    ensures { Coded (element_codes kind coords.now no_more) (code_of result) }
-{
-    if coords.len() != 2 * (kind as usize) {
-        return Err(Refusal::Length);
-    }
-    if kind == 6 {
-        return node_code(6, coords);
-    }
-    node_code(kind, coords)
-}
-
-// Code 1, 3, 4 or 21, or 0.
+// Refusal 1, 3, 4 or 21, or none.
 pub fn element_code(kind: u8, coords: &[i32]) -> Result<(), Refusal>
     ensures { Coded (bounds_codes kind coords.now) (code_of result) }
 {
-    if !known(kind) {
-        return Err(Refusal::Kind);
-    }
-    list_code(kind, coords)
+    Kind::try_from(kind)?.list_code(coords)
 }
 
-// Code 2, 3, 4 or 21, or 0.
-fn level_code(kind: u8, limit: u8, coords: &[i32]) -> Result<(), Refusal>
-    requires { ¬ NotKind kind }
-    ensures { Coded (level_codes kind limit coords.now) (code_of result) }
-{
-    if greatest_level(kind) < limit {
-        return Err(Refusal::Level);
-    }
-    list_code(kind, coords)
-}
-
-// Code 1, 2, 3, 4 or 21, or 0.
+// Refusal 1, 2, 3, 4 or 21, or none.
 pub fn verdict_code(kind: u8, limit: u8, coords: &[i32]) -> Result<(), Refusal>
     ensures { Coded (verdict_codes kind limit coords.now) (code_of result) }
 {
-    if !known(kind) {
-        return Err(Refusal::Kind);
-    }
-    level_code(kind, limit, coords)
+    Kind::try_from(kind)?.level_code(limit, coords)
 }
 
 // The same of an element that is to go into a block.
@@ -210,7 +180,7 @@ pub fn stored_code(kind: u8, limit: u8, coords: &[i32]) -> Result<(), Refusal>
     if !stored(kind) {
         return Err(Refusal::Kind);
     }
-    level_code(kind, limit, coords)
+    Kind::try_from(kind)?.level_code(limit, coords)
 }
 
 // The same of a six-node triangle, where no other kind is taken.
@@ -220,5 +190,5 @@ pub fn six_code(kind: u8, limit: u8, coords: &[i32]) -> Result<(), Refusal>
     if kind != 6 {
         return Err(Refusal::Kind);
     }
-    level_code(kind, limit, coords)
+    Kind::Six.level_code(limit, coords)
 }

@@ -15,9 +15,8 @@ use Rattle.element.specs.Origin.{moved_by}
 use Rattle.element.specs.Refusals.{Codes, no_more, code, Refused, ShortRoom, control_codes, bounds_codes}
 use Rattle.element.proofs.Origin.{values_moved}
 use Rattle.faults.proofs.Limits.{kind-long}
-use Rattle.control.specs.Calls.{ControlValues, code_of, SolverBounds, BoundsOf, bounds_of}
+use Rattle.control.specs.Calls.{Bounded, ControlValues, code_of, SolverBounds, BoundsOf, bounds_of}
 use Rattle.control.specs.declared.Controlled.{Controlled}
-use Rattle.control.specs.declared.Bounded.{Bounded}
 use Rattle.control.proofs.Outcomes.{control-values-unique, solver-bounds-unique}
 use Rattle.origin.specs.Lists.{Sound}
 use Rattle.origin.proofs.Orders.{list-refused, list-accepted}

@@ -62,11 +62,9 @@ pub fn coordinates(xs: &[i32], gap: usize, axis: usize) -> [i64; 10]
 {
     let from = coord(xs, axis);
     let mut c = [0; 10];
-    let mut k = 0;
-    while k < 9 {
+    for k in 0..9 {
         let at = place(gap, k);
         c[k] = less(xs, 2 * at + axis, from);
-        k += 1;
     }
     c[9] = 0;
     c
@@ -81,11 +79,8 @@ pub fn within(xs: &[i32], limit: u32) -> bool
     let most = limit as i32;
     let least = 0 - most;
     let mut all = true;
-    let mut k = 0;
-    while k < xs.len() {
-        let x = xs[k];
-        all = all & (x <= most) & (least <= x);
-        k += 1;
+    for x in xs {
+        all = all & (*x <= most) & (least <= *x);
     }
     all
 }
@@ -101,11 +96,9 @@ fn near(xs: &[i32], limit: u32) -> bool
     let x = coord(xs, 0);
     let y = coord(xs, 1);
     let mut close = true;
-    let mut i = 0;
-    while i < xs.len() {
+    for i in 0..xs.len() {
         let d = less(xs, i, by_axis(x, y, i));
         close = close & (d <= most) & (least <= d);
-        i += 1;
     }
     close
 }

@@ -109,10 +109,8 @@ pub fn quarter(c: [i64; 16], i: u8) -> [i64; 16]
 {
     let rows = table(i);
     let mut values = [0; 16];
-    let mut k = 0;
-    while k < 16 {
+    for k in 0..16 {
         values[k] = weighed(&rows[k], &c);
-        k += 1;
     }
     values
 }

@@ -2,3 +2,4 @@ pub mod Known
 pub mod Signs
 pub mod Order
 pub mod Codec
+pub mod Refusals

@@ -5,10 +5,12 @@ ghost use Rattle.std.specs.Prelude.{◌≡◌, true, false, ◌+◌, ◌*◌, �
 ghost use Rattle.algebra.specs.Within.{Each};
 ghost use Rattle.element.specs.Kinds.{NotStored, kind_of};
 ghost use Rattle.element.specs.Refusals.{Beyond, no_more, Coded, node_codes};
+ghost use Rattle.faults.specs.Refusal.{code_of};
 ghost use Rattle.record.specs.Record.{most_sign, read_coords, read_record};
 ghost use Rattle.record.specs.Faults.{sign_codes, record_codes};
 
 use endian::{get_i32, get_u32};
+use faults::refusal::Refusal;
 use faults::{greatest_level, node_code, stored};
 use points::within;
 
@@ -23,18 +25,24 @@ pub struct Record {
     pub coords: [i32; 18],
 }
 
+// The record of zeros.
+pub const BLANK: Record = Record {
+    id: 0,
+    kind: 0,
+    limit: 0,
+    signed: 0,
+    level: 0,
+    coords: [0; 18],
+};
+
 // The nine pairs of the record at a place.
 fn read_coords(s: &[u8], at: usize) -> [i32; 18]
     requires { at + 80 ≤ length s.now }
     ensures { result ≡ read_coords s.now at }
 {
     let mut out = [0i32; 18];
-    let mut k: usize = 0;
-    while k < 18 {
-        let i = at + 8 + 4 * k;
-        let x = get_i32(s, i);
-        out[k] = x;
-        k += 1;
+    for k in 0..18 {
+        out[k] = get_i32(s, at + 8 + 4 * k);
     }
     out
 }
@@ -77,10 +85,10 @@ fn unused_zero(coords: [i32; 18], kind: u8) -> bool
     within(&coords[n..], 0)
 }
 
-// The code of the kind's nodes: 4 or 21, or 0.
-fn used_code(coords: [i32; 18], kind: u8) -> u8
+// Refusal 4 or 21 of the kind's nodes, if any.
+fn used_code(coords: [i32; 18], kind: u8) -> Result<(), Refusal>
     requires { ¬ NotStored kind }
-    ensures { Coded (node_codes (kind_of kind) (take (2 * kind) coords) no_more) result }
+    ensures { Coded (node_codes (kind_of kind) (take (2 * kind) coords) no_more) (code_of result) }
 {
     if kind == 6 {
         return node_code(6, &coords[..12]);
@@ -99,52 +107,46 @@ fn most_sign(version: u32) -> u8
     2
 }
 
-// The code of a record's two bytes: 2, 9, or 0.
-fn sign_code(version: u32, kind: u8, signed: u8, level: u8) -> u8
-    ensures { Coded (sign_codes version (kind_of kind) signed level) result }
+// Refusal 2 or 9 of a record's two bytes, if any.
+fn sign_code(version: u32, kind: u8, signed: u8, level: u8) -> Result<(), Refusal>
+    ensures { Coded (sign_codes version (kind_of kind) signed level) (code_of result) }
 {
     if most_sign(version) < signed {
-        return 9;
+        return Err(Refusal::Unused);
     }
     if signed == 0 {
         if level == 0 {
-            return 0;
+            return Ok(());
         }
-        return 9;
+        return Err(Refusal::Unused);
     }
     if greatest_level(kind) < level {
-        return 2;
+        return Err(Refusal::Level);
     }
-    0
+    Ok(())
 }
 
-// The code of the record at a place in a block of this version: 1, 2, 9, 4, 21, 10, or 0; low is the least id that may stand there.
-pub fn fault(s: &[u8], at: usize, version: u32, low: u64) -> u8
+// Refusal 1, 2, 9, 4, 21 or 10 of the record at a place in a block of this version, if any; low is the least id that may stand there.
+pub fn fault(s: &[u8], at: usize, version: u32, low: u64) -> Result<(), Refusal>
     requires { at + 80 ≤ length s.now }
-    ensures { Coded (record_codes version s.now at low) result }
+    ensures { Coded (record_codes version s.now at low) (code_of result) }
 {
     let r = read_record(s, at);
     let kind = r.kind;
     let coords = r.coords;
     if !stored(kind) {
-        return 1;
+        return Err(Refusal::Kind);
     }
     if greatest_level(kind) < r.limit {
-        return 2;
+        return Err(Refusal::Level);
     }
-    let c = sign_code(version, kind, r.signed, r.level);
-    if c != 0 {
-        return c;
-    }
+    sign_code(version, kind, r.signed, r.level)?;
     if !unused_zero(coords, kind) {
-        return 9;
+        return Err(Refusal::Unused);
     }
-    let d = used_code(coords, kind);
-    if d != 0 {
-        return d;
+    used_code(coords, kind)?;
+    if u64::from(r.id) < low {
+        return Err(Refusal::Order);
     }
-    if (r.id as u64) < low {
-        return 10;
-    }
-    0
+    Ok(())
 }

@@ -6,45 +6,48 @@ ghost use Rattle.cuttings.specs.Reads.{Reads, InTurn, quarters_from, Checked};
 ghost use Rattle.sheet_cells.specs.Either.{shape_by, values_by, growth_by};
 
 use crate::either::{passes, quarter};
-use cuttings::Read;
 
 // The cutting of a cell that stands in the sheet from the place `at` on, no deeper than `left`: the place after it.
 #[cycle(cell_quarters)]
-pub fn cell(triangle: bool, c: [i64; 16], left: u32, sheet: &[u8], at: usize) -> Read
+pub fn cell(triangle: bool, c: [i64; 16], left: u32, sheet: &[u8], at: usize) -> Option<usize>
     requires { Each (cap (growth_by triangle) left) (values_by triangle c) }
     ensures { Checked (λ rest. Reads (shape_by triangle) left (values_by triangle c) (drop at sheet.now) rest) sheet.now result }
 {
     if sheet.len() <= at {
-        return Read::Failed;
+        return None;
     }
     let byte = sheet[at];
     if byte == 0 {
         if passes(triangle, c) {
-            return Read::Next(at + 1);
+            return Some(at + 1);
         }
-        return Read::Failed;
+        return None;
     }
     if byte != 1 {
-        return Read::Failed;
+        return None;
     }
     if left == 0 {
-        return Read::Failed;
+        return None;
     }
     quarters(triangle, c, 0, left - 1, sheet, at + 1)
 }
 
 // The cuttings of a cell's quarters from quarter i on, one behind the other.
 #[cycle(cell_quarters)]
-fn quarters(triangle: bool, c: [i64; 16], i: u8, left: u32, sheet: &[u8], at: usize) -> Read
+fn quarters(
+    triangle: bool,
+    c: [i64; 16],
+    i: u8,
+    left: u32,
+    sheet: &[u8],
+    at: usize,
+) -> Option<usize>
     requires { (i ≤ 4) × Each (cap (growth_by triangle) (left + 1)) (values_by triangle c) × (at ≤ length sheet.now) }
     ensures { Checked (λ rest. InTurn (shape_by triangle) left (values_by triangle c) (quarters_from i) (drop at sheet.now) rest) sheet.now result }
 {
     if i == 4 {
-        return Read::Next(at);
+        return Some(at);
     }
-    let first = cell(triangle, quarter(triangle, c, i), left, sheet, at);
-    match first {
-        Read::Next(next) => quarters(triangle, c, i + 1, left, sheet, next),
-        Read::Failed => Read::Failed,
-    }
+    let next = cell(triangle, quarter(triangle, c, i), left, sheet, at)?;
+    quarters(triangle, c, i + 1, left, sheet, next)
 }

@@ -11,13 +11,11 @@
 --   Returned x y  == y is the float x, or plus zero where that is minus zero
 --   Subnormal x   == x is not zero, and below 2^-1022 in size
 -- Definitions only.
-use Rattle.std.specs.Prelude.{◌≡◌, ℕ, ◌*◌, ◌^◌, ◌<◌, true, false, ◌⊎◌, List, length, ℤ, pos, slice_index_or, Float}
+use Rattle.std.specs.Prelude.{◌≡◌, ℕ, ◌*◌, ◌^◌, ◌<◌, true, false, ◌⊎◌, Option, Some, None, List, length, ℤ, pos, slice_index_or, Float}
 use Rattle.std.specs.Float.{nan, inf, fin}
 use Rattle.std.specs.Float.Ieee.{up, down}
 use Rattle.floats.specs.Values.{F64, IsOver, zero_of}
 use Rattle.element.specs.Origin.{Held}
-use Rattle.solver_grid.specs.declared.Found.{Found}
-use Rattle.solver_grid.specs.declared.Found.TheVariants.{Number, Nothing}
 
 abbrev pub Is1024th : Float → ℤ → Type 0
 Is1024th x v = IsOver 1024 x v
@@ -30,9 +28,9 @@ pub record OnGrid (x : Float) (v : ℤ) : Type 0 where
 abbrev pub Stands : Float → Type 0
 Stands x = (v : ℤ) × OnGrid x v
 
-abbrev pub Tells : Float → Found → Type 0
-Tells x (Number v) = OnGrid x v
-Tells x Nothing = ¬ Stands x
+abbrev pub Tells : Float → Option ℤ → Type 0
+Tells x (Some v) = OnGrid x v
+Tells x None = ¬ Stands x
 
 -- past the end stands what is no number
 abbrev pub float : List Float → ℕ → Float

@@ -3,6 +3,7 @@
 
 ghost use Rattle.std.specs.Prelude.{◌≡◌, ◌≤◌, true, false, length};
 ghost use Rattle.element.specs.Refusals.{Coded};
+ghost use Rattle.faults.specs.Refusal.{code_of};
 ghost use Rattle.solver_grid.specs.Grid.{OnGrid, Stands, Tells, SomeOff, Over};
 ghost use Rattle.solver_grid.specs.Calls.{
   scaled,
@@ -15,6 +16,7 @@ ghost use Rattle.solver_grid.specs.Calls.{
   UnscaleCoordinates,
 };
 
+use faults::refusal::Refusal;
 use faults::stored;
 
 // The code, the record number, and the number of places that are filled at the buffer's start.
@@ -25,28 +27,21 @@ pub struct Scaled {
     pub count: usize,
 }
 
-// The whole number that a float stands for on the grid, or that there is none.
-#[derive(Clone, Copy)]
-pub enum Found {
-    Number(i32),
-    Nothing,
-}
-
-// 1024 times x, where it is a whole number and an i32. Between the two bounds the product is exact, and so is the whole part's cast.
-fn find(x: f64) -> Found
+// 1024 times x, where that is a whole number and an i32. Between the two bounds the product is exact, and so is the whole part's cast.
+fn find(x: f64) -> Option<i32>
     ensures { Tells x result }
 {
     if x < -2097152.0 {
-        return Found::Nothing;
+        return None;
     }
     if x < 2097152.0 {
         let y = x * 1024.0;
         let n = std::num::truncating_f64_to_i64(y);
         if n as f64 == y {
-            return Found::Number(n as i32);
+            return Some(n as i32);
         }
     }
-    Found::Nothing
+    None
 }
 
 // Whether x stands for a whole number.
@@ -54,10 +49,7 @@ fn stands(x: f64) -> bool
     ensures yes { result ≡ true → Stands x }
     ensures no { result ≡ false → ¬ Stands x }
 {
-    match find(x) {
-        Found::Number(_) => true,
-        Found::Nothing => false,
-    }
+    find(x).is_some()
 }
 
 // The whole number that x stands for.
@@ -65,10 +57,7 @@ fn number(x: f64) -> i32
     requires { ¬ ¬ Stands x }
     ensures { OnGrid x result }
 {
-    match find(x) {
-        Found::Number(n) => n,
-        Found::Nothing => 0,
-    }
+    find(x).unwrap_or(0)
 }
 
 // n / 1024, exactly.
@@ -83,12 +72,10 @@ fn some_off(xs: &[f64]) -> bool
     ensures yes { result ≡ true → SomeOff xs.now }
     ensures no { result ≡ false → ¬ SomeOff xs.now }
 {
-    let mut k = 0;
-    while k < xs.len() {
-        if !stands(xs[k]) {
+    for x in xs {
+        if !stands(*x) {
             return true;
         }
-        k += 1;
     }
     false
 }
@@ -99,10 +86,8 @@ fn put_numbers(out: &mut [i32], xs: &[f64])
     requires on { ¬ SomeOff xs.now }
     ensures { Filled OnGrid (length xs.now) xs.now out.old out.new }
 {
-    let mut k = 0;
-    while k < xs.len() {
+    for k in 0..xs.len() {
         out[k] = number(xs[k]);
-        k += 1;
     }
 }
 
@@ -111,58 +96,50 @@ fn put_floats(out: &mut [f64], xs: &[i32])
     requires { length xs.now ≤ length out.old }
     ensures { Filled Over (length xs.now) xs.now out.old out.new }
 {
-    let mut k = 0;
-    while k < xs.len() {
+    for k in 0..xs.len() {
         out[k] = over(xs[k]);
-        k += 1;
     }
 }
 
-// Code 1 or 3, or 0.
-fn list_code(kind: u8, many: usize) -> u8
-    ensures { Coded (list_codes kind many) result }
+// Refusal 1 or 3, or none.
+fn list_code(kind: u8, many: usize) -> Result<(), Refusal>
+    ensures { Coded (list_codes kind many) (code_of result) }
 {
     if !stored(kind) {
-        return 1;
+        return Err(Refusal::Kind);
     }
     if many != 2 * (kind as usize) {
-        return 3;
+        return Err(Refusal::Length);
     }
-    0
+    Ok(())
 }
 
-// Code 5, or 0.
-fn room_code(kind: u8, room: usize) -> u8
-    ensures { Coded (room_codes kind room) result }
+// Refusal 5, or none.
+fn room_code(kind: u8, room: usize) -> Result<(), Refusal>
+    ensures { Coded (room_codes kind room) (code_of result) }
 {
     if room < 2 * (kind as usize) {
-        return 5;
+        return Err(Refusal::Room);
     }
-    0
+    Ok(())
 }
 
-// Code 1, 3, 23 or 5, or 0.
-fn scale_code(kind: u8, xs: &[f64], room: usize) -> u8
-    ensures { Coded (scale_codes kind xs.now room) result }
+// Refusal 1, 3, 23 or 5, or none.
+fn scale_code(kind: u8, xs: &[f64], room: usize) -> Result<(), Refusal>
+    ensures { Coded (scale_codes kind xs.now room) (code_of result) }
 {
-    let code = list_code(kind, xs.len());
-    if code != 0 {
-        return code;
-    }
+    list_code(kind, xs.len())?;
     if some_off(xs) {
-        return 23;
+        return Err(Refusal::OffGrid);
     }
     room_code(kind, room)
 }
 
-// Code 1, 3 or 5, or 0.
-fn unscale_code(kind: u8, xs: &[i32], room: usize) -> u8
-    ensures { Coded (unscale_codes kind xs.now room) result }
+// Refusal 1, 3 or 5, or none.
+fn unscale_code(kind: u8, xs: &[i32], room: usize) -> Result<(), Refusal>
+    ensures { Coded (unscale_codes kind xs.now room) (code_of result) }
 {
-    let code = list_code(kind, xs.len());
-    if code != 0 {
-        return code;
-    }
+    list_code(kind, xs.len())?;
     room_code(kind, room)
 }
 
@@ -181,9 +158,8 @@ fn answer(code: u8, count: usize) -> Scaled
 pub fn scale_coordinates(kind: u8, xs: &[f64], out: &mut [i32]) -> Scaled
     ensures { ScaleCoordinates kind xs.now out.old result out.new }
 {
-    let code = scale_code(kind, xs, out.len());
-    if code != 0 {
-        return answer(code, 0);
+    if let Err(refusal) = scale_code(kind, xs, out.len()) {
+        return answer(refusal.number(), 0);
     }
     put_numbers(out, xs);
     answer(0, xs.len())
@@ -193,9 +169,8 @@ pub fn scale_coordinates(kind: u8, xs: &[f64], out: &mut [i32]) -> Scaled
 pub fn unscale_coordinates(kind: u8, xs: &[i32], out: &mut [f64]) -> Scaled
     ensures { UnscaleCoordinates kind xs.now out.old result out.new }
 {
-    let code = unscale_code(kind, xs, out.len());
-    if code != 0 {
-        return answer(code, 0);
+    if let Err(refusal) = unscale_code(kind, xs, out.len()) {
+        return answer(refusal.number(), 0);
     }
     put_floats(out, xs);
     answer(0, xs.len())

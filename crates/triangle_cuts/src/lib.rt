@@ -68,10 +68,8 @@ pub fn quarter(c: [i64; 6], i: u8) -> [i64; 6]
 {
     let rows = table(i);
     let mut values = [0; 6];
-    let mut k = 0;
-    while k < 6 {
+    for k in 0..6 {
         values[k] = weighed(&rows[k], &c);
-        k += 1;
     }
     values
 }

@@ -136,9 +136,8 @@ fn walk_quad(coords: &[i32], eight: bool, limit: u32) -> Walk
 pub fn verdict(kind: u8, limit: u8, coords: &[i32]) -> Judged
     ensures { VerdictOf kind limit coords.now result }
 {
-    let code = verdict_code(kind, limit, coords);
-    if code != 0 {
-        return refused(code);
+    if let Err(refusal) = verdict_code(kind, limit, coords) {
+        return refused(refusal.number());
     }
     let levels = limit as u32;
     if kind == 6 {

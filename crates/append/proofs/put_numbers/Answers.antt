@@ -18,10 +18,9 @@ loop-k-preserved c =
     let x = c.args in
     let zs = x.zs in
     let v : to_z w32 (of_z w32 (get_or zs c.loop-k.k (pos 0))) ≡ get_or zs c.loop-k.k (pos 0) = to_z-of_z {w = w32} (search rules) in (
-      omega arith,
-      c.loop-k.invariant.1,
+      c.loop-k.invariant.0,
       c.put_i32.ensures
           ∙ ap (λ (z : ℤ). over c.loop-k.s (x.at + 4 * c.loop-k.k) (signed_bytes 4 z)) v
-          ∙ ap (λ (s : List ℕ). over s (x.at + 4 * c.loop-k.k) (signed_bytes 4 (get_or zs c.loop-k.k (pos 0)))) c.loop-k.invariant.2
-          ∙ numbers-turn x.s.now x.at c.loop-k.k zs (omega (arith, c.loop-k.invariant.1)) (omega (arith, c.loop-k.invariant.1, c.requires)),
+          ∙ ap (λ (s : List ℕ). over s (x.at + 4 * c.loop-k.k) (signed_bytes 4 (get_or zs c.loop-k.k (pos 0)))) c.loop-k.invariant.1
+          ∙ numbers-turn x.s.now x.at c.loop-k.k zs (omega (arith, c.loop-k.invariant.0)) (omega (arith, c.loop-k.invariant.0, c.requires)),
     )

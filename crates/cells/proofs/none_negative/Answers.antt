@@ -10,9 +10,9 @@ use mir.Val.{to_z, of_z}
 use Rattle.cells.proofs.Parts.{non_negatives-more}
 use Rattle.cells.proofs.none_negative.Goals as goal
 
-pub loop-k-preserved : goal.loop-k-preserved
-loop-k-preserved c =
-    let k = c.loop-k.k in
+pub loop-x-preserved : goal.loop-x-preserved
+loop-x-preserved c =
+    let k = c.loop-x.x-index in
     let v = c.args.c.now in
     let e : to_z w64 (of_z w64 (get_or v k (pos 0))) ≡ get_or v k (pos 0) = search rules in
-    (omega arith, rw (e, c.loop-k.invariant.1, add-one k) (sym (non_negatives-more v k (omega arith))))
+    rw (e, c.loop-x.invariant, add-one k) (sym (non_negatives-more v k (omega arith)))

@@ -1,7 +1,7 @@
 -- `weighed` meets its contract: the loop keeps that it has the sum of the terms before place k. Assumes nothing.
 use mathlib.Core.Path.{◌≡◌, refl, ◌∙◌}
 use mathlib.Core.List.{List}
-use Prim.Native.Nat.{ℕ, suc, ◌*◌, zero-le}
+use Prim.Native.Nat.{ℕ, suc, ◌*◌}
 use native.Mathlib.Numerals.{add-one}
 use native.Mathlib.Omega.{arith}
 use borrow.Author.Rules.{rules, sfits_of}
@@ -19,7 +19,7 @@ use Rattle.cells.proofs.weighed.Goals as goal
 
 pub loop-k-init : goal.loop-k-init
 unfolding weigh
-loop-k-init c = (zero-le, refl)
+loop-k-init c = refl
 
 pub overflow_mul-sum : goal.overflow_mul-sum
 overflow_mul-sum c =
@@ -43,7 +43,7 @@ overflow_add-sum c =
     let product : ℤ = to_z w64 (of_z w64 c.signed.result) *ℤ to_z w64 (of_z w64 (value turn)) in
     let term : Is (total row * room.size) (pos (get_or row turn 0) *ℤ value turn) product = (let e : to_z w64 (of_z w64 (value turn)) ≡ value turn = search rules in
     term_is room turn (to_z-of_z {w = w64} (sfits_of c.signed.type_inv) ∙ c.signed.ensures) e) in
-    let more : Is (total row * room.size) (weigh (take (suc turn) row) value) (to_z w64 c.loop-k.sum-bits +ℤ to_z w64 (of_z w64 product)) = more-is room turn (omega arith) c.loop-k.invariant.1 (st-at term room.below).same in
+    let more : Is (total row * room.size) (weigh (take (suc turn) row) value) (to_z w64 c.loop-k.sum-bits +ℤ to_z w64 (of_z w64 product)) = more-is room turn (omega arith) c.loop-k.invariant (st-at term room.below).same in
     fits-at more room.below
 
 pub loop-k-preserved : goal.loop-k-preserved
@@ -56,5 +56,5 @@ loop-k-preserved c =
     let product : ℤ = to_z w64 (of_z w64 c.signed.result) *ℤ to_z w64 (of_z w64 (value turn)) in
     let term : Is (total row * room.size) (pos (get_or row turn 0) *ℤ value turn) product = (let e : to_z w64 (of_z w64 (value turn)) ≡ value turn = search rules in
     term_is room turn (to_z-of_z {w = w64} (sfits_of c.signed.type_inv) ∙ c.signed.ensures) e) in
-    let more : Is (total row * room.size) (weigh (take (suc turn) row) value) (to_z w64 c.loop-k.sum-bits +ℤ to_z w64 (of_z w64 product)) = more-is room turn (omega arith) c.loop-k.invariant.1 (st-at term room.below).same in
-    (omega arith, rw (add-one turn) (st-at more room.below).same)
+    let more : Is (total row * room.size) (weigh (take (suc turn) row) value) (to_z w64 c.loop-k.sum-bits +ℤ to_z w64 (of_z w64 product)) = more-is room turn (omega arith) c.loop-k.invariant (st-at term room.below).same in
+    rw (add-one turn) (st-at more room.below).same

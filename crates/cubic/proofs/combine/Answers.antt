@@ -14,8 +14,6 @@ value-requires-clause-places c =
     rw c.degrees-d.ensures (degrees-add c.loop-n.n (omega arith))
 
 pub loop-n-preserved : goal.loop-n-preserved
-loop-n-preserved c = (
-  omega arith,
-  fill_more c.loop-n.invariant.1 (omega arith)
-      (to_z-of_z {w = w64} (sfits_of c.value.type_inv) ∙ c.value.ensures ∙ ap (value_of c.args.x.now c.args.y.now) c.degrees-d.ensures),
-)
+loop-n-preserved c =
+    fill_more c.loop-n.invariant (omega arith)
+    (to_z-of_z {w = w64} (sfits_of c.value.type_inv) ∙ c.value.ensures ∙ ap (value_of c.args.x.now c.args.y.now) c.degrees-d.ensures)

@@ -34,9 +34,9 @@ loop-k-preserved c =
     ∙ ap (less v (2 * place c.args.gap c.loop-k.k + a)) (to_z-of_z {w = w64} (sfits_of c.coord-from.type_inv) ∙ c.coord-from.ensures.value)
     ∙ less-axis v (place c.args.gap c.loop-k.k) a c.requires.1
     ∙ sym (among (from_first v) c.args.gap a c.loop-k.k (omega arith)) in
-    (omega arith, fill_more c.loop-k.invariant.1 (omega arith) (to_z-of_z {w = w64} (sfits_of c.less.type_inv) ∙ e))
+    fill_more c.loop-k.invariant (omega arith) (to_z-of_z {w = w64} (sfits_of c.less.type_inv) ∙ e)
 
 pub returns : goal.returns
 returns c =
     let e : c.loop-k.k ≡ 9 = omega arith in
-    fill_end (fill_more (as-far e c.loop-k.invariant.1) (lit< tt) refl) refl
+    fill_end (fill_more (as-far e c.loop-k.invariant) (lit< tt) refl) refl

@@ -1,6 +1,6 @@
 -- `points::coordinates` meets its contract: the loop keeps that the first k places are filled, and the last is filled behind it.
 use mathlib.Core.Bool.{cond}
-use Prim.Native.Nat.{◌+◌, ◌*◌, ◌-◌, ◌≤◌}
+use Prim.Native.Nat.{◌+◌, ◌*◌}
 use lib.Dec.{ltb}
 use lib.IntN.{pos}
 use Rattle.algebra.specs.Fill.{Filled}
@@ -10,7 +10,4 @@ use Rattle.points.specs.Points.{place}
 use Rattle.points.proofs.coordinates.Given as goal
 
 abbrev pub invariant-loop-k : goal.invariant-loop-k
-invariant-loop-k l = (l.k ≤ 9) × Filled 10 l.k (λ m. cond (ltb m 9) (at (from_first l.xs) (2 * place l.gap m + l.axis)) (pos 0)) l.c
-
-abbrev pub decreases-loop-k : goal.decreases-loop-k
-decreases-loop-k l = 9 - l.k
+invariant-loop-k l = Filled 10 l.k (λ m. cond (ltb m 9) (at (from_first l.xs) (2 * place l.gap m + l.axis)) (pos 0)) l.c

@@ -31,7 +31,6 @@ loop-i-preserved c =
     ∙ less-first v i in (
       limit-more (from_first v) c.args.limit i c.loop-i.close _ _ c.loop-i.invariant.0 (ap₂ le_z e most-is.same) (ap₂ le_z least-is.same e),
       below_more _ _ c.loop-i.invariant.1 c.less-d.ensures.held,
-      omega arith,
     )
 
 pub returns-clause-yes : goal.returns-clause-yes

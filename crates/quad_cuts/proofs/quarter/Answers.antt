@@ -19,8 +19,6 @@ weighed-requires c =
 pub loop-k-preserved : goal.loop-k-preserved
 loop-k-preserved c =
     let rows = c.table-rows in
-    let turn = c.loop-k in (
-      omega arith,
-      fill_more turn.invariant.1 (omega arith) (row-value quad (four_of c.args.i) rows.result turn.k c.args.c rows.ensures.rule
-          (to_z-of_z {w = w64} (sfits_of c.weighed.type_inv) ∙ c.weighed.ensures)),
-    )
+    let turn = c.loop-k in
+    fill_more turn.invariant (omega arith) (row-value quad (four_of c.args.i) rows.result turn.k c.args.c rows.ensures.rule
+    (to_z-of_z {w = w64} (sfits_of c.weighed.type_inv) ∙ c.weighed.ensures))

@@ -1,4 +1,3 @@
-use Prim.Native.Nat.{◌-◌, ◌≤◌}
 use lib.IntN.{pos}
 use lib.ListN.{get_or}
 use Rattle.algebra.specs.Fill.{Filled}
@@ -8,7 +7,4 @@ use Rattle.forms.specs.Quads.{quad}
 use Rattle.quad_cuts.proofs.quarter.Given as goal
 
 abbrev pub invariant-loop-k : goal.invariant-loop-k
-invariant-loop-k l = (l.k ≤ 16) × Filled 16 l.k (λ m. get_or (cut_to quad (four_of l.i) l.c) m (pos 0)) l.values
-
-abbrev pub decreases-loop-k : goal.decreases-loop-k
-decreases-loop-k l = 16 - l.k
+invariant-loop-k l = Filled 16 l.k (λ m. get_or (cut_to quad (four_of l.i) l.c) m (pos 0)) l.values

@@ -6,8 +6,7 @@ use Rattle.solver_grid.proofs.put_floats.Goals as goal
 
 pub loop-k-preserved : goal.loop-k-preserved
 loop-k-preserved c = (
-  omega arith,
-  length-set c.loop-k.out c.loop-k.k _ ∙ c.loop-k.invariant.1,
-  filled_more Over (pos 0) c.loop-k.k _ c.loop-k.invariant.2 (omega arith) (omega arith)
+  length-set c.loop-k.out c.loop-k.k _ ∙ c.loop-k.invariant.0,
+  filled_more Over (pos 0) c.loop-k.k _ c.loop-k.invariant.1 (omega arith) (omega arith)
       (subst (λ v. Over v c.over.result) (to_z-of_z {w = w32} (search rules)) c.over.ensures),
 )

@@ -8,8 +8,7 @@ use Rattle.solver_grid.proofs.put_numbers.Goals as goal
 
 pub loop-k-preserved : goal.loop-k-preserved
 loop-k-preserved c = (
-  omega arith,
-  length-set c.loop-k.out c.loop-k.k _ ∙ c.loop-k.invariant.1,
-  filled_more OnGrid nan c.loop-k.k _ c.loop-k.invariant.2 (omega arith) (omega (arith, c.requires.room))
+  length-set c.loop-k.out c.loop-k.k _ ∙ c.loop-k.invariant.0,
+  filled_more OnGrid nan c.loop-k.k _ c.loop-k.invariant.1 (omega arith) (omega (arith, c.requires.room))
       (subst (OnGrid _) (sym (to_z-of_z {w = w32} (sfits_of c.number.type_inv))) c.number.ensures),
 )

@@ -4,7 +4,7 @@ use mathlib.Core.Path.{sym, ◌∙◌}
 use native.Mathlib.Omega.{arith}
 use mathlib.Core.Logic.{inl, inr}
 use Rattle.forms.specs.Cuttings.{four_of}
-use Rattle.cuttings.proofs.Reading.{ended, kept, not-kept, other_byte, quartered, answered, one_more, one-failed}
+use Rattle.cuttings.proofs.Reading.{ended, kept, not-kept, other_byte, quartered, one_more, one-failed}
 use Rattle.cuttings.proofs.Room.{cut_left, quarter-room, cut-room}
 use Rattle.sheet_cells.specs.Either.{shape_by, values_by, growth_by}
 use Rattle.sheet_cells.proofs.Shapes.{lawful-by}
@@ -54,8 +54,8 @@ quarters-quarter-requires t c =
     let a = c.args in let g = c.if-i-eq4.false in
     (omega (arith, c.requires.0), cut-room (growth_by a.triangle) a.left (values_by a.triangle a.c) c.requires.1)
 
-pub quarters-cell-first-requires : goal.quarters-cell-first-requires
-quarters-cell-first-requires t c =
+pub quarters-cell-requires : goal.quarters-cell-requires
+quarters-cell-requires t c =
     let a = c.args in (
       omega (arith, c.decreases, c.requires.0),
       quarter-room (shape_by a.triangle) (lawful-by a.triangle) (four_of a.i) a.left (values_by a.triangle a.c) c.requires.1 c.quarter.ensures,
@@ -64,17 +64,18 @@ quarters-cell-first-requires t c =
 pub quarters-quarters-requires : goal.quarters-quarters-requires
 quarters-quarters-requires t c =
     let a = c.args in let g = c.if-i-eq4.false in
-    let h = answered (shape_by a.triangle) a.left (values_by a.triangle a.c) a.sheet.now a.at a.i (values_by a.triangle c.quarter.result) c.in-Next.is c.cell-first.ensures in
+    let h = c.in_ok-next.ensures in
     (omega (arith, c.decreases, c.requires.0), (omega (arith, c.requires.0), c.requires.1, h.0))
 
-pub quarters-returns-in-Next : goal.quarters-returns-in-Next
-quarters-returns-in-Next t c =
+pub quarters-returns : goal.quarters-returns
+quarters-returns t c =
     let a = c.args in let g = c.if-i-eq4.false in
-    one_more (shape_by a.triangle) a.left (values_by a.triangle a.c) a.sheet.now a.at a.i c.in-Next.next c.quarters.result (omega (arith, c.requires.0)) c.quarter.ensures
-    (answered (shape_by a.triangle) a.left (values_by a.triangle a.c) a.sheet.now a.at a.i (values_by a.triangle c.quarter.result) c.in-Next.is c.cell-first.ensures) c.quarters.ensures
+    one_more (shape_by a.triangle) a.left (values_by a.triangle a.c) a.sheet.now a.at a.i c.in_ok-next.next c.quarters.result (omega (arith, c.requires.0)) c.quarter.ensures
+    c.in_ok-next.ensures c.quarters.ensures
 
-pub quarters-returns-in-Failed : goal.quarters-returns-in-Failed
-quarters-returns-in-Failed t c =
+pub quarters-returns-in_err-next : goal.quarters-returns-in_err-next
+quarters-returns-in_err-next t c =
     let a = c.args in let g = c.if-i-eq4.false in
-    one-failed (shape_by a.triangle) a.left (values_by a.triangle a.c) a.sheet.now a.at a.i (omega (arith, c.requires.0)) c.quarter.ensures
-    (answered (shape_by a.triangle) a.left (values_by a.triangle a.c) a.sheet.now a.at a.i (values_by a.triangle c.quarter.result) c.in-Failed.is c.cell-first.ensures)
+    rw c.from_residual.ensures
+    (one-failed (shape_by a.triangle) a.left (values_by a.triangle a.c) a.sheet.now a.at a.i (omega (arith, c.requires.0)) c.quarter.ensures
+    c.in_err-next.ensures)
