@@ -1,6 +1,6 @@
 -- `record_text::lines::silent` meets its contract.
 use mathlib.Core.Path.{sym, ap, ◌∙◌}
-use lib.ListN.{length, drop}
+use lib.ListN.{drop}
 use Rattle.mesh_text.specs.Rows.{line, first, is_nil}
 use Rattle.record_text.proofs.Tests.{silent-none, silent-first}
 use Rattle.record_text.proofs.lines.silent.Goals as goal
