@@ -1,5 +1,4 @@
 -- What the writes of a record come to.
---   part-over   : bytes written to a part of a slice are written over it
 --   record-over : the bytes of a record, piece by piece, are its 80 bytes
 -- Assumes nothing.
 use mathlib.Core.Path.{◌≡◌, ap, ◌∙◌}
@@ -14,11 +13,6 @@ use Rattle.endian.proofs.Writes.{over-more}
 use Rattle.record.specs.declared.Record.{Record}
 use Rattle.record.specs.Record.{numbers_bytes, record_bytes}
 use Rattle.record.proofs.Codec.{numbers-length}
-
-pub part-over : (l v : List ℕ) (i j : ℕ) → i + length v ≡ j → put_mid i (j - i) l v ≡ over l i v
-part-over l v i j e =
-    ap (λ (s : List ℕ). take i l ++ (v ++ s))
-    (drop-drop (j - i) i l ∙ ap (λ (n : ℕ). drop n l) (let q : i + (j - i) ≡ i + length v = omega arith in q))
 
 -- kind, level limit and the two bytes of the sign
 abbrev pub middle : Record → List ℕ

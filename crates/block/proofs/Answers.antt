@@ -24,7 +24,7 @@ use Rattle.element.specs.Refusals.{Codes, Refused, Accepted}
 use Rattle.element.proofs.Refusals.{refused-unique, refused-accepted, refused-some, refused-then, past-then, accepted-then, then-accepted, then-refused}
 use Rattle.faults.specs.Refusal.{number_of}
 use Rattle.record.specs.Record.{blank}
-use Rattle.record.proofs.Refusals.{some-number}
+use Rattle.faults.proofs.Refusals.{number-some}
 use Rattle.block.specs.declared.Checked.{Checked}
 use Rattle.block.specs.declared.Fetched.{Fetched}
 use Rattle.block.specs.declared.Refused as answer
@@ -66,7 +66,7 @@ module _ (o : Codes Fault) (l : List ℕ) where
 
   -- ---- its result
   pub err-refused : (e : answer.Refused) → ChecksBy o l (as_checked (Err e)) → Refused o (told e)
-  err-refused e q = (by-none (as_checked (Err e)) q (some-number e.refusal)).refused
+  err-refused e q = (by-none (as_checked (Err e)) q (number-some e.refusal)).refused
 
   pub refused-err : (e : answer.Refused) → Refused o (told e) → ChecksBy o l (as_checked (Err e))
   refused-err e r = inl (record { refused = r; no_count = refl })

@@ -6,3 +6,4 @@ pub mod Blocks
 pub mod Demands
 pub mod Changes
 pub mod Long
+pub mod Parts

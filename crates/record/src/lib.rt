@@ -10,8 +10,9 @@ ghost use Rattle.record.specs.Record.{most_sign, read_coords, read_record};
 ghost use Rattle.record.specs.Faults.{sign_codes, record_codes};
 
 use endian::{get_i32, get_u32};
+use faults::kind::Kind;
 use faults::refusal::Refusal;
-use faults::{greatest_level, node_code, stored};
+use faults::{greatest_level, stored};
 use points::within;
 
 // Id, kind, level limit, the two bytes of the sign, and nine pairs of coordinates.
@@ -90,11 +91,11 @@ fn used_code(coords: [i32; 18], kind: u8) -> Result<(), Refusal>
     requires { ¬ NotStored kind }
     ensures { Coded (node_codes (kind_of kind) (take (2 * kind) coords) no_more) (code_of result) }
 {
-    if kind == 6 {
-        return node_code(6, &coords[..12]);
+    match kind {
+        6 => Kind::Six.node_code(&coords[..12]),
+        8 => Kind::Eight.node_code(&coords[..16]),
+        _ => Kind::Nine.node_code(&coords),
     }
-    let n = 2 * (kind as usize);
-    node_code(kind, &coords[..n])
 }
 
 // The greatest first byte of a record in a block of this version.

@@ -1,6 +1,7 @@
 -- What the calls `sign_record`, `to_version_2` and `to_version_1` answer, and what they leave in the block (02, Ask 4: "it judges it at its
 -- stored limit (one signed already at its signed level, so nothing changes) and writes the verdict and its level into those bytes, nothing
 -- else"; "All of version 1 converts to version 2 and back, the same bytes returning").
+--   as_changed r          == the answer that the result of a call tells
 --   NotChanged o l r a    == a refusal: the block stays
 --   IsConverted o v l r a == a success of a conversion to the version v: the version's bytes change, and nothing else
 --   Newer l r a, Older l r a == what `to_version_2` and `to_version_1` do
@@ -8,15 +9,21 @@
 --   Signs l k r a         == what `sign_record` does
 -- o is the order of codes; l and a are the block's bytes before and after, r is the answer.
 -- Definitions only.
-use Rattle.std.specs.Prelude.{◌≡◌, List, ◌⊎◌, ℕ}
+use Rattle.std.specs.Prelude.{◌≡◌, List, ◌⊎◌, ℕ, Result, Ok, Err}
 use Rattle.element.specs.Refusals.{Codes, Refused, Accepted}
+use Rattle.faults.specs.Refusal.{number_of}
 use Rattle.judge.specs.Verdict.{Answer, Judges}
 use Rattle.signs.specs.Signs.{element, sign_of, limit_of}
 use Rattle.block.specs.Block.{record_at}
 use Rattle.block.specs.Faults.{Fault}
 use Rattle.block.specs.Changes.{with_version, with_sign}
+use Rattle.block.specs.declared.Refused as answer
 use Rattle.signing.specs.declared.Changed.{Changed}
 use Rattle.signing.specs.Orders.{newer_codes, older_codes, sign_codes}
+
+abbrev pub as_changed : Result Unit answer.Refused → Changed
+as_changed (Ok _) = record { code = 0; number = 0 }
+as_changed (Err e) = record { code = number_of e.refusal; number = e.number }
 
 -- "A refusal returns the code, the record number for faults in a stored record (else 0) .. and changes no lent buffer"
 pub record NotChanged (o : Codes Fault) (l : List ℕ) (r : Changed) (a : List ℕ) : Type 0 where

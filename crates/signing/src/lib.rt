@@ -2,13 +2,14 @@
 #![tactic(auto)]
 
 ghost use Rattle.std.specs.Prelude.{◌≡◌, ◌≤◌, length};
-ghost use Rattle.block.specs.Calls.{ChecksBy};
+ghost use Rattle.block.specs.Calls.{as_checked, ChecksBy};
 ghost use Rattle.block.specs.Changes.{with_version};
 ghost use Rattle.signing.specs.Orders.{of_version, older_codes};
-ghost use Rattle.signing.specs.Calls.{Newer, Older, Signs};
+ghost use Rattle.signing.specs.Calls.{as_changed, Newer, Older, Signs};
 ghost use Rattle.signing.specs.Steps.{Signable};
 
-use block::{Checked, check_block, next_signed, record_at, version_code};
+use block::{Refused, check, next_signed, record_at, version_code};
+use faults::refusal::Refusal;
 use signs::{judge, limit_of, sign_of};
 
 // The code, and the record number.
@@ -18,110 +19,93 @@ pub struct Changed {
     pub number: u32,
 }
 
-// The code, the record number, and the two bytes of a sign.
+// The two bytes of a sign.
 #[derive(Clone, Copy)]
 pub struct Sign {
-    pub code: u8,
-    pub number: u32,
     pub signed: u8,
     pub level: u8,
 }
 
-// Whether the bytes are a block of this version, and of how many records.
-fn check_version(bytes: &[u8], version: u32) -> Checked
-    ensures { ChecksBy (of_version version bytes.now) bytes.now result }
+// The answer of a call that is done, or refused.
+fn answer(done: Result<(), Refused>) -> Changed
+    ensures { result ≡ as_changed done }
 {
-    let code = version_code(bytes, version, version);
-    if code != 0 {
-        return Checked {
-            code,
-            number: 0,
-            count: 0,
-        };
+    match done {
+        Ok(_) => Changed { code: 0, number: 0 },
+        Err(e) => Changed {
+            code: e.refusal.number(),
+            number: e.number,
+        },
     }
-    check_block(bytes)
 }
 
-// Whether the bytes are a block of version 2 without a signed record.
-fn check_unsigned(bytes: &[u8]) -> Checked
-    ensures { ChecksBy (older_codes bytes.now) bytes.now result }
+// How many records a block of this version has.
+fn check_version(bytes: &[u8], version: u32) -> Result<u32, Refused>
+    ensures { ChecksBy (of_version version bytes.now) bytes.now (as_checked result) }
 {
-    let c = check_version(bytes, 2);
-    if c.code != 0 {
-        return c;
+    version_code(bytes, version, version)?;
+    check(bytes)
+}
+
+// How many records a block of version 2 has, none of which is signed.
+fn check_unsigned(bytes: &[u8]) -> Result<u32, Refused>
+    ensures { ChecksBy (older_codes bytes.now) bytes.now (as_checked result) }
+{
+    let count = check_version(bytes, 2)?;
+    if let Some(k) = next_signed(bytes, 0, count) {
+        let refusal = Refusal::Signed;
+        return Err(Refused { refusal, number: k });
     }
-    let k = next_signed(bytes, 0, c.count);
-    if k < c.count {
-        return Checked {
-            code: 18,
-            number: k,
-            count: 0,
-        };
-    }
-    c
+    Ok(count)
 }
 
 // The version, written into a header.
-fn put_version(block: &mut [u8], version: u32)
+fn put_version(block: &mut [u8], version: u16)
     requires { 9 ≤ length block.old }
     ensures { block.new ≡ with_version block.old version }
 {
-    block[3] = (version % 256) as u8;
-    block[4] = (version / 256 % 256) as u8;
+    block[3..5].copy_from_slice(&version.to_le_bytes());
+}
+
+// The steps of `to_version_2`.
+fn newer(block: &mut [u8]) -> Result<(), Refused>
+    ensures { Newer block.old (as_changed result) block.new }
+{
+    check_version(block, 1)?;
+    put_version(block, 2);
+    Ok(())
 }
 
 // A block of version 1 becomes one of version 2.
 pub fn to_version_2(block: &mut [u8]) -> Changed
     ensures { Newer block.old result block.new }
 {
-    let c = check_version(block, 1);
-    if c.code != 0 {
-        return Changed {
-            code: c.code,
-            number: c.number,
-        };
-    }
-    put_version(block, 2);
-    Changed { code: 0, number: 0 }
+    answer(newer(block))
+}
+
+// The steps of `to_version_1`.
+fn older(block: &mut [u8]) -> Result<(), Refused>
+    ensures { Older block.old (as_changed result) block.new }
+{
+    check_unsigned(block)?;
+    put_version(block, 1);
+    Ok(())
 }
 
 // A block of version 2 without a signed record becomes one of version 1.
 pub fn to_version_1(block: &mut [u8]) -> Changed
     ensures { Older block.old result block.new }
 {
-    let c = check_unsigned(block);
-    if c.code != 0 {
-        return Changed {
-            code: c.code,
-            number: c.number,
-        };
-    }
-    put_version(block, 1);
-    Changed { code: 0, number: 0 }
+    answer(older(block))
 }
 
-// A refusal of a sign.
-fn no_sign(code: u8, number: u32) -> Sign
-    ensures { result ≡ record { code = code; number = number; signed = 0; level = 0 } }
-{
-    Sign {
-        code,
-        number,
-        signed: 0,
-        level: 0,
-    }
-}
-
-// The code of a sign of record k, or 0 and its two bytes.
-fn sign_for(bytes: &[u8], k: u32) -> Sign
+// The sign of record k.
+fn sign_for(bytes: &[u8], k: u32) -> Result<Sign, Refused>
     ensures { Signable bytes.now k result }
 {
-    let c = check_version(bytes, 2);
-    if c.code != 0 {
-        return no_sign(c.code, c.number);
-    }
-    if c.count <= k {
-        return no_sign(12, 0);
+    let count = check_version(bytes, 2)?;
+    if count <= k {
+        return Err(Refused::from(Refusal::Absent));
     }
     let r = record_at(bytes, k);
     let limit = limit_of(r.limit, r.signed, r.level);
@@ -129,31 +113,29 @@ fn sign_for(bytes: &[u8], k: u32) -> Sign
     let word = v.word;
     let signed = sign_of(word);
     if signed == 0 {
-        return no_sign(24, k);
+        let refusal = Refusal::Undecided;
+        return Err(Refused { refusal, number: k });
     }
-    Sign {
-        code: 0,
-        number: 0,
+    Ok(Sign {
         signed,
         level: v.level as u8,
-    }
+    })
+}
+
+// The steps of `sign_record`.
+fn put_sign(block: &mut [u8], k: u32) -> Result<(), Refused>
+    ensures { Signs block.old k (as_changed result) block.new }
+{
+    let m = sign_for(block, k)?;
+    let n = k as usize;
+    let at = 15 + 80 * n;
+    block[at..at + 2].copy_from_slice(&[m.signed, m.level]);
+    Ok(())
 }
 
 // The verdict of record k and its level, written into the record's two bytes.
 pub fn sign_record(block: &mut [u8], k: u32) -> Changed
     ensures { Signs block.old k result block.new }
 {
-    let m = sign_for(block, k);
-    if m.code != 0 {
-        return Changed {
-            code: m.code,
-            number: m.number,
-        };
-    }
-    let n = k as usize;
-    let at = 15 + 80 * n;
-    let next = at + 1;
-    block[at] = m.signed;
-    block[next] = m.level;
-    Changed { code: 0, number: 0 }
+    answer(put_sign(block, k))
 }

@@ -6,7 +6,7 @@ use native.Mathlib.Nat as N
 use native.Mathlib.Omega.{arith}
 use lib.ListN.{length, take}
 use Rattle.std.proofs.lemmas.Result.{err_from_is_err_and}
-use Rattle.record.proofs.Refusals.{some-number}
+use Rattle.faults.proofs.Refusals.{number-some}
 use Rattle.append.specs.Append.{room_codes}
 use Rattle.append.proofs.Orders.{allows-refused, allows-allowed, room-refused, room-sound}
 use Rattle.append.proofs.Turns.{short-given}
@@ -20,7 +20,7 @@ returns-in_err-count c =
     rw (p.1, p.2) (inl (record {
       refused = room-refused a.buffer.now a.used a.id a.kind a.limit a.coords.now _ c.if-buffer-n.false
           (allows-refused (room_codes l (length a.buffer.now - a.used) a.id a.kind a.limit a.coords.now) l _ c.in_err-count.ensures
-          (some-number _));
+          (number-some _));
       no_used = refl;
       untouched = refl;
     }))

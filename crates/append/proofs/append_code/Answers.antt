@@ -6,7 +6,8 @@ use Prim.Native.Nat.{ℕ}
 use lib.IntN.{ℤ}
 use Rattle.std.proofs.lemmas.Result.{err_from_is_err_and}
 use Rattle.element.specs.Refusals.{Coded}
-use Rattle.record.proofs.Refusals.{some-number, coded-ok, coded-err}
+use Rattle.faults.proofs.Refusals.{number-some}
+use Rattle.record.proofs.Refusals.{coded-ok, coded-err}
 use Rattle.block.specs.Block.{count_of}
 use Rattle.block.specs.Faults.{lowest, block_codes}
 use Rattle.block.proofs.Answers.{err-refused, ok-counted}
@@ -28,7 +29,7 @@ returns-in_err-count c =
     rw (p.1, p.2) (inl (record {
       refused = block_refused a.bytes.now a.room a.id a.kind a.limit a.coords.now _
           (err-refused (block_codes a.bytes.now) a.bytes.now _ c.in_err-count.ensures);
-      some = some-number _;
+      some = number-some _;
     }))
 
 pub returns-in_err-next_code : goal.returns-in_err-next_code
@@ -39,7 +40,7 @@ returns-in_err-next_code c =
     rw (p.1, p.2) (inl (record {
       refused = given-refused a.bytes.now a.room a.id a.kind a.limit a.coords.now _ n.0
           (coded-err _ (behind a.bytes.now a.room a.id a.kind a.limit a.coords.now c.lowest_id-low.ensures n.1 c.in_err-next_code.ensures));
-      some = some-number _;
+      some = number-some _;
     }))
 
 pub returns : goal.returns

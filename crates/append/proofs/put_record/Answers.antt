@@ -7,7 +7,8 @@ use lib.ListN.{length}
 use borrow.Author.Rules.{rules}
 use Rattle.endian.specs.Numbers.{bytes, over}
 use Rattle.record.specs.Record.{numbers_bytes}
-use Rattle.append.proofs.Written.{middle, part-over, record-over}
+use Rattle.block.proofs.Parts.{part-over}
+use Rattle.append.proofs.Written.{middle, record-over}
 use Rattle.append.proofs.put_record.Goals as goal
 
 pub returns : goal.returns

@@ -10,7 +10,8 @@ use Rattle.element.proofs.Ranges.{each-inside}
 use Rattle.record.specs.declared.Record.{Record}
 use Rattle.record.specs.Record.{used, read_record}
 use Rattle.record.specs.Faults.{TooHigh, NotZero, sign_codes}
-use Rattle.record.proofs.Refusals.{some-number, coded-ok}
+use Rattle.faults.proofs.Refusals.{number-some}
+use Rattle.record.proofs.Refusals.{coded-ok}
 use Rattle.record.proofs.fault.Goals as goal
 
 -- `record::fault` meets its contract: fault by fault.
@@ -40,7 +41,7 @@ returns-in_err-used_code c =
     let p = err_from_is_err_and c.from_residual-in_err-used_code.result c.from_residual-in_err-used_code.ensures.1 in
     rw (p.1, p.2) (coded-past kind_known (coded-past not-high (coded-past zeros
     (coded-first (node_codes (kind_of r.kind) (used r) no_more) _ _
-    (rw c.read_record-r.ensures at c.in_err-used_code.ensures) (some-number _)))))
+    (rw c.read_record-r.ensures at c.in_err-used_code.ensures) (number-some _)))))
 
 pub returns-then-from-low : goal.returns-then-from-low
 returns-then-from-low c =
