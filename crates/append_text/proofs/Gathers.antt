@@ -9,12 +9,14 @@
 use mathlib.Core.Path.{◌≡◌, refl, sym, ap, ◌∙◌, subst}
 use mathlib.Core.Bool.{false, cond}
 use mathlib.Core.List.{List, [], ◌∷◌, ◌++◌, append-nil, append_assoc, map-append}
-use mathlib.Core.Logic.{inl}
 use Prim.Native.Nat.{ℕ, suc, ◌+◌, ◌*◌, ◌≤◌, ◌<◌}
 use native.Mathlib.Omega.{arith}
 use borrow.Author.Tests.{ltb-true, ltb-false}
 use lib.Dec.{ltb}
 use lib.ListN.{length, drop, length-append, length-drop, drop_of_length-le}
+use Rattle.std.specs.Prelude.{Result}
+use Rattle.faults.specs.declared.refusal.Refusal.{Refusal}
+use Rattle.faults.specs.Refusal.{number_of as refusal_number}
 use Rattle.element.proofs.Refusals.{then-accepted}
 use Rattle.element.specs.Refusals.{Accepted}
 use Rattle.append.specs.Series.{Stops}
@@ -32,21 +34,21 @@ use Rattle.record_text.specs.Finds.{LineEnd}
 use Rattle.record_text.specs.Values.{silent_b, given_of, said_by, said_in}
 use Rattle.record_text.proofs.Tests.{wrong-front}
 use Rattle.record_text.proofs.Readings.{silent-true, silent-of}
-use Rattle.append_text.specs.declared.Passed.{Passed}
-use Rattle.append_text.specs.Passes.{handed, givens_by, Halts, Gathers}
+use Rattle.append_text.specs.declared.RefusedLine.{RefusedLine}
+use Rattle.append_text.specs.Passes.{handed, givens_by, Halts}
 use Rattle.append_text.proofs.Handed.{handed-codes, handed-given}
 
 -- ---- one line
 not-silent : (ws : List (List ℕ)) → ¬ Silent ws → silent_b ws ≡ false
 not-silent ws n = by-test (silent_b ws) (silent_b ws ≡ false) (λ e. absurd (n (silent-true ws e))) (λ e. e)
 
-pub line-silent : (ws : List (List ℕ)) (s : Tally) (b : List ℕ) → Silent ws → s.code ≡ 0 → Moves (givens_by ws) 0 s b s b
-line-silent ws s b h z = rw (silent-of h) (inl (moved_none s b z))
+pub line-silent : (ws : List (List ℕ)) (s : Tally) (b : List ℕ) → Silent ws → Moved (givens_by ws) 0 s b s b
+line-silent ws s b h = rw (silent-of h) (moved_none s b)
 
-pub line_taken : (ws : List (List ℕ)) (s r : Tally) (b a : List ℕ) → ¬ Silent ws → Moves (handed ws ∷ []) 0 s b r a → Moves (givens_by ws) 0 s b r a
+pub line_taken : (ws : List (List ℕ)) (s : Tally) (r : Result Tally Refusal) (b a : List ℕ) → ¬ Silent ws → Moves (handed ws ∷ []) 0 s b r a → Moves (givens_by ws) 0 s b r a
 line_taken ws s r b a h m =
     rw (not-silent ws h)
-    (same-moves (handed-codes s.low s.count s.room ws) refl (handed-given s.low s.count s.room ws) m)
+    (same-moves 0 s b a r (handed-codes s.low s.count s.room ws) refl (handed-given s.low s.count s.room ws) m)
 
 pub givens-by : (n : ℕ) (ws : List (List ℕ)) → givens (said_by n ws) ≡ givens_by ws
 givens-by n ws =
@@ -55,9 +57,9 @@ givens-by n ws =
 no-stops : {l n m d : ℕ} → Stops l n m [] d → ⊥
 no-stops = elim [ ]
 
-halted-counts : (ws : List (List ℕ)) {s r : Tally} {a c : List ℕ} → Halted (givens_by ws) s a r c → ¬ Silent ws
-halted-counts ws {s} {r} h e =
-    no-stops (subst (λ gs. Stops s.low s.count s.room gs r.code) (ap (λ c. cond c [] (given_of ws ∷ [])) (silent-of e)) h.stops)
+halted-counts : (ws : List (List ℕ)) {s : Tally} {d : ℕ} {a c : List ℕ} → Halted (givens_by ws) s a d c → ¬ Silent ws
+halted-counts ws {s} {d} h e =
+    no-stops (subst (λ gs. Stops s.low s.count s.room gs d) (ap (λ c. cond c [] (given_of ws ∷ [])) (silent-of e)) h.stops)
 
 -- a line that counts
 given-one : (ws : List (List ℕ)) → ¬ Silent ws → givens_by ws ≡ given_of ws ∷ []
@@ -112,8 +114,8 @@ pub record Keeps (t : List ℕ) (z : Tally) (b : List ℕ) (s : Tally) (a : List
   pub few : n ≤ at + 1
 
 module _ (t : List ℕ) (z : Tally) (b : List ℕ) where
-  pub keeps-start : z.code ≡ 0 → Accepted (form_codes t) → Keeps t z b z b 0 1
-  keeps-start c a = record { done = []; moved = moved_none z b c; all = refl; good = a; inside = omega arith; few = omega arith }
+  pub keeps-start : Accepted (form_codes t) → Keeps t z b z b 0 1
+  keeps-start a = record { done = []; moved = moved_none z b; all = refl; good = a; inside = omega arith; few = omega arith }
 
   module _ (h : Fresh z b) {s : Tally} {a : List ℕ} {at n : ℕ} (k : Keeps t z b s a at n) where
     abbrev here : List ℕ
@@ -142,12 +144,12 @@ module _ (t : List ℕ) (z : Tally) (b : List ℕ) where
             few = omega (arith, k.few);
           }
 
-      pub keeps-halted : (r : Passed) {c : List ℕ} → r.line ≡ n → Halted (givens_by (line here)) s a r.tally c
+      pub keeps-halted : (r : RefusedLine) {c : List ℕ} → r.line ≡ n → Halted (givens_by (line here)) s a (refusal_number r.refusal) c
           → Halts (said_in 1 (lines t)) z b r c
       keeps-halted r {c} f m =
           let ws = line here in
           let i = halted-counts ws m in
-          let q = one-stops (subst (λ gs. Stops s.low s.count s.room gs r.tally.code) (given-one ws i) m.stops) in
+          let q = one-stops (subst (λ gs. Stops s.low s.count s.room gs (refusal_number r.refusal)) (given-one ws i) m.stops) in
           record {
             before = k.done;
             one = record { line = n; given = given_of ws };
@@ -159,9 +161,9 @@ module _ (t : List ℕ) (z : Tally) (b : List ℕ) where
             long = m.long ∙ keeps-length;
           }
 
-    pub keeps-end : (r : Passed) → length t ≤ at → r.tally ≡ s → Gathers (said_in 1 (lines t)) z b r a
+    pub keeps-end : length t ≤ at → Moved (givens (said_in 1 (lines t))) 0 z b s a
     unfolding lines
-    keeps-end r l e =
+    keeps-end l =
         let q : here ≡ [] = drop_of_length-le t l in
         let f : said_in 1 (lines t) ≡ k.done = k.all ∙ ap (λ u. k.done ++ said_in n (lines u)) q ∙ append-nil k.done in
-        inl (rw f (rw e k.moved))
+        rw f k.moved

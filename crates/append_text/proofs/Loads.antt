@@ -1,18 +1,17 @@
 -- The records of a good text, tried behind a good block.
---   gathers-moved, gathers-halted : which of the two, by the code
 --   not_taken, is-taken : what the call answers, by what the pass met
 -- Assumes nothing.
 use mathlib.Core.Path.{◌≡◌, refl, sym, ap, ap₂, ◌∙◌, subst}
 use mathlib.Core.List.{List, [], ◌∷◌, ◌++◌, map-append}
-use mathlib.Core.Logic.{inl, inr}
-use Prim.Native.Nat.{ℕ, ◌+◌, ◌-◌, ◌*◌}
+use Prim.Native.Nat.{ℕ, ◌+◌, ◌*◌}
 use native.Mathlib.Omega.{arith}
 use lib.ListN.{length, take, length-map}
 use Rattle.element.specs.Refusals.{Accepted}
+use Rattle.faults.specs.Refusal.{number_of}
 use Rattle.element.proofs.Refusals.{refused-some}
 use Rattle.endian.specs.Numbers.{Bytes, bytes, over}
 use Rattle.append.specs.Calls.{Appends}
-use Rattle.append.specs.Series.{Given, Series, IdsFit, next_codes, low_after}
+use Rattle.append.specs.Series.{Given, Series, IdsFit, next_codes}
 use Rattle.append.proofs.Splits.{series-split}
 use Rattle.batch.specs.declared.Tally.{Tally}
 use Rattle.batch.specs.Tallies.{opening, Moved}
@@ -22,22 +21,11 @@ use Rattle.record_text.specs.Faults.{spot}
 use Rattle.record_text.specs.Says.{Line, Records, givens}
 use Rattle.record_text.specs.Values.{said_in}
 use Rattle.record_text.proofs.Readings.{said_of, records-fit}
-use Rattle.append_text.specs.declared.Passed.{Passed}
+use Rattle.append_text.specs.declared.RefusedLine.{RefusedLine}
 use Rattle.append_text.specs.declared.Texted.{Texted}
 use Rattle.append_text.specs.Calls.{text_codes, word_of, refusal, NotTaken, IsTaken}
-use Rattle.append_text.specs.Passes.{Halts, Gathers}
+use Rattle.append_text.specs.Passes.{Halts}
 use Rattle.append_text.proofs.Opened.{form-good, whole-good, buffer-good}
-
--- ---- by the code
-pub gathers-moved : {gs : List Line} {z : Tally} {b : List ℕ} {r : Passed} {a : List ℕ} → Gathers gs z b r a → r.tally.code ≡ 0
-    → Moved (givens gs) 0 z b r.tally a
-gathers-moved (inl m) e = m
-gathers-moved {z = z} {r = r} (inr h) e =
-    absurd (refused-some (next_codes (low_after z.low (givens h.before)) (z.count + length (givens h.before)) (z.room - 80 * length (givens h.before)) h.one.given) r.tally.code tt h.refused e)
-
-pub gathers-halted : {gs : List Line} {z : Tally} {b : List ℕ} {r : Passed} {a : List ℕ} → Gathers gs z b r a → ¬ (r.tally.code ≡ 0) → Halts gs z b r a
-gathers-halted (inl m) n = absurd (n m.clean)
-gathers-halted (inr h) n = h
 
 front-fit : (gs hs : List Given) → IdsFit (gs ++ hs) → IdsFit gs
 front-fit [] hs f = tt
@@ -50,12 +38,12 @@ module _ (t b : List ℕ) (used : ℕ) (y : Bytes b) (a : Accepted (text_codes t
   told : Records t all
   told = said_of t (form-good t b used a) (whole-good t b used a)
 
-  pub not_taken : (p : Passed) (r : Texted) (o c : List ℕ)
+  pub not_taken : (p : RefusedLine) (r : Texted) (o c : List ℕ)
       → Halts all (opening b used) o p c
-      → r ≡ refusal (spot p.tally.code p.line (word_of p.tally.code))
+      → r ≡ refusal (spot (number_of p.refusal) p.line (word_of (number_of p.refusal)))
       → NotTaken t b used r b
   not_taken p r o c h e =
-      let k : p.tally.code ≡ r.code = ap (λ m. m.code) (sym e) in
+      let k : (number_of p.refusal) ≡ r.code = ap (λ m. m.code) (sym e) in
       let said = subst (Records t) h.whole told in
       let fit = front-fit (givens h.before) (givens (h.one ∷ h.after)) (subst IdsFit (map-append (λ g. g.given) h.before (h.one ∷ h.after)) (records-fit said)) in
       let q = series-split b used y (buffer-good t b used a) fit h.passes h.refused in
@@ -69,7 +57,7 @@ module _ (t b : List ℕ) (used : ℕ) (y : Bytes b) (a : Accepted (text_codes t
         up = q.1.0;
         ran = q.1.1.0;
         stopped = subst (λ n. Appends q.0 q.1.0 h.one.given.id h.one.given.kind h.one.given.limit h.one.given.coords (record { code = n; number = 0; used = 0 }) q.0) k q.1.1.1;
-        some = λ z. refused-some (next_codes _ _ _ h.one.given) p.tally.code tt h.refused (k ∙ z);
+        some = λ z. refused-some (next_codes _ _ _ h.one.given) (number_of p.refusal) tt h.refused (k ∙ z);
         answer = e ∙ ap₂ (λ (n l : ℕ). refusal (spot n l (word_of n))) k h.named;
         untouched = refl;
       }

@@ -2,11 +2,10 @@
 --   refused-unplaced, accepted-unplaced, unplaced-accepted : the order of the buffer, at no line of the text
 --   form-refused, whole-refused, buffer-refused, text-accepted : the order of the text, and then that of the buffer
 --   form-good, whole-good, buffer-good : what a call that is accepted has met
---   not_opened     : the answer of a refusal before any record
---   found, found_none : by what is found in the text
+--   refused-answer : the answer of a refusal before any record
 --   used-beyond, block_refused, block-counted : by what `used` and the check of the block say
 -- Assumes nothing.
-use mathlib.Core.Path.{◌≡◌, refl, sym, ap, subst}
+use mathlib.Core.Path.{◌≡◌, refl, ap}
 use mathlib.Core.List.{List}
 use mathlib.Core.Logic.{inl, inr}
 use Prim.Native.Nat.{ℕ, ◌≤◌, ◌<◌}
@@ -14,17 +13,17 @@ use native.Mathlib.Omega.{arith}
 use lib.ListN.{length, take}
 use Rattle.element.proofs.Refusals.{refused-then, past-then, accepted-then, then-accepted}
 use Rattle.element.specs.Refusals.{Codes, no_more, code, ◌then◌, Refused, Accepted}
+use Rattle.std.specs.Prelude.{Err}
+use Rattle.faults.specs.Refusal.{number_of}
 use Rattle.block.specs.Block.{count_of}
 use Rattle.block.specs.declared.Checked.{Checked}
 use Rattle.block.specs.Calls.{Checks}
 use Rattle.block.specs.Faults.{Fault, block_codes}
 use Rattle.block.proofs.Walk.{block-some}
 use Rattle.append.specs.Append.{buffer_codes}
-use Rattle.record_text.specs.declared.Place.{Place}
-use Rattle.record_text.specs.Faults.{Spot, spot, form_codes, whole_codes}
-use Rattle.record_text.specs.Finds.{Finds}
-use Rattle.append_text.specs.declared.Texted.{Texted}
-use Rattle.append_text.specs.Calls.{unplaced, text_codes, spot_of, refusal, NotOpened}
+use Rattle.record_text.specs.Faults.{Spot, form_codes, whole_codes}
+use Rattle.append_text.specs.declared.RefusedAt.{RefusedAt}
+use Rattle.append_text.specs.Calls.{unplaced, text_codes, as_texted, AppendsText}
 
 -- ---- at no line
 abbrev nowhere : Fault → Spot
@@ -75,13 +74,9 @@ module _ (t b : List ℕ) (used : ℕ) where
         unplaced-accepted (buffer_codes b used) (then-accepted (whole_codes t) (unplaced (buffer_codes b used)) (then-accepted (form_codes t) behind a).1).1
 
   -- ---- the answer
-  pub not_opened : (f : Spot) (r : Texted) → Refused (text_codes t b used) f → r ≡ refusal f → NotOpened t b used r b
-  not_opened f r h e =
-      record {
-        refused = subst (λ q. Refused (text_codes t b used) (spot_of q)) (sym e) h;
-        zeros = subst (λ q. q ≡ refusal (spot_of q)) (sym e) refl;
-        untouched = refl;
-      }
+  pub refused-answer : (e : RefusedAt) → Refused (text_codes t b used) (record { code = number_of e.refusal; number = e.number; line = e.line; word = e.word })
+      → AppendsText t b used (as_texted (Err e)) b
+  refused-answer e h = inl (record { refused = h; zeros = refl; untouched = refl })
 
   -- ---- the block
   pub used-beyond : Accepted (form_codes t) → Accepted (whole_codes t) → length b < used → Refused (text_codes t b used) (nowhere (record { code = 5; number = 0 }))
@@ -104,12 +99,3 @@ module _ (t b : List ℕ) (used : ℕ) where
         counted-by : Checks (take used b) r → Accepted (text_codes t b used) × (r.count ≡ count_of (take used b))
         counted-by (inl q) = absurd (block-some (take used b) (record { code = r.code; number = r.number }) q.refused z)
         counted-by (inr q) = (text-accepted a c (within, q.accepted), ap (λ u. u.count) q.answer)
-
--- ---- what a search found
-pub found : (o : Codes Spot) (c : ℕ) (r : Place) → Finds o c r → ¬ (r.line ≡ 0) → Refused o (spot c r.line r.word)
-found o c r (inl f) n = absurd (n (ap (λ p. p.line) f.1))
-found o c r (inr f) n = f.0
-
-pub found_none : (o : Codes Spot) (c : ℕ) (r : Place) → Finds o c r → r.line ≡ 0 → Accepted o
-found_none o c r (inl f) z = f.0
-found_none o c r (inr f) z = absurd (f.1 z)

@@ -4,6 +4,7 @@
 --   word_of c         == the word of a line that names the code c of an append
 --   spot_of r         == what an answer names: code, record number, line and word
 --   refusal f        == the answer of a refusal
+--   as_texted d      == the answer that the call's result tells
 --   NotOpened t b used r a == a refusal before any record is tried
 --   NotTaken t b used r a == a refusal of a record: those of the lines before are appended one by one, and the call for it is refused
 --   IsTaken t b used r a == a success: what the run of `append_record` over all records of the text answers and leaves
@@ -11,7 +12,7 @@
 --   AppendsText t b used r a == one of the three
 -- t is the text, b and a are the buffer's content before and after, r is the answer.
 -- Definitions only.
-use Rattle.std.specs.Prelude.{◌≡◌, cond, List, ◌∷◌, ◌++◌, ◌⊎◌, ℕ, ◌+◌, ◌*◌, eqb, length}
+use Rattle.std.specs.Prelude.{◌≡◌, cond, List, ◌∷◌, ◌++◌, ◌⊎◌, ℕ, ◌+◌, ◌*◌, eqb, length, Result, Ok, Err}
 use Rattle.element.specs.Refusals.{Codes, no_more, code, ◌then◌, Refused, Accepted}
 use Rattle.block.specs.Faults.{Fault}
 use Rattle.append.specs.Append.{buffer_codes}
@@ -19,7 +20,10 @@ use Rattle.append.specs.Calls.{Appends}
 use Rattle.append.specs.Series.{Series}
 use Rattle.record_text.specs.Faults.{Spot, spot, form_codes, whole_codes}
 use Rattle.record_text.specs.Says.{Line, Records, givens}
+use Rattle.faults.specs.Refusal.{number_of}
 use Rattle.append_text.specs.declared.Texted.{Texted}
+use Rattle.append_text.specs.declared.Added.{Added}
+use Rattle.append_text.specs.declared.RefusedAt.{RefusedAt}
 
 -- ---- the text and the block
 -- "`line` is .. 0 for `used`, block", and so is the word
@@ -41,6 +45,10 @@ spot_of r = record { code = r.code; number = r.number; line = r.line; word = r.w
 -- "A refusal returns the code, the record number for faults in a stored record (else 0), zero in all other fields"
 abbrev pub refusal : Spot → Texted
 refusal f = record { code = f.code; number = f.number; line = f.line; word = f.word; used = 0; appended = 0 }
+
+abbrev pub as_texted : Result Added RefusedAt → Texted
+as_texted (Ok d) = record { code = 0; number = 0; line = 0; word = 0; used = d.used; appended = d.appended }
+as_texted (Err e) = refusal (record { code = number_of e.refusal; number = e.number; line = e.line; word = e.word })
 
 pub record NotOpened (t b : List ℕ) (used : ℕ) (r : Texted) (a : List ℕ) : Type 0 where
   pub refused : Refused (text_codes t b used) (spot_of r)

@@ -6,8 +6,9 @@
 --   Gathers gs z b r a == all of gs pass, or it halts
 -- z and b are the tally and the bytes before the pass, r and a those behind it.
 -- Definitions only.
-use Rattle.std.specs.Prelude.{◌≡◌, cond, List, [], ◌∷◌, ◌++◌, map, ◌⊎◌, ℕ, ◌+◌, ◌-◌, ◌*◌, min, length, take, drop}
+use Rattle.std.specs.Prelude.{◌≡◌, cond, List, [], ◌∷◌, ◌++◌, map, ℕ, ◌+◌, ◌-◌, ◌*◌, min, length, take, drop, Result, Ok, Err}
 use Rattle.element.specs.Refusals.{Refused}
+use Rattle.faults.specs.Refusal.{number_of as refusal_number}
 use Rattle.append.specs.Series.{Given, next_codes, low_after, Passes}
 use Rattle.batch.specs.declared.Tally.{Tally}
 use Rattle.batch.specs.Tallies.{Moved}
@@ -15,7 +16,7 @@ use Rattle.mesh_text.specs.Rows.{first, rest}
 use Rattle.mesh_text.specs.Tests.{number_of, clipped}
 use Rattle.record_text.specs.Says.{Line, givens}
 use Rattle.record_text.specs.Values.{silent_b, given_of}
-use Rattle.append_text.specs.declared.Passed.{Passed}
+use Rattle.append_text.specs.declared.RefusedLine.{RefusedLine}
 
 abbrev pub handed : List (List ℕ) → Given
 handed ws =
@@ -29,7 +30,7 @@ handed ws =
 abbrev pub givens_by : List (List ℕ) → List Given
 givens_by ws = cond (silent_b ws) [] (given_of ws ∷ [])
 
-pub record Halts (gs : List Line) (z : Tally) (b : List ℕ) (r : Passed) (a : List ℕ) : Type 0 where
+pub record Halts (gs : List Line) (z : Tally) (b : List ℕ) (r : RefusedLine) (a : List ℕ) : Type 0 where
   pub before : List Line
   pub one : Line
   pub after : List Line
@@ -37,9 +38,10 @@ pub record Halts (gs : List Line) (z : Tally) (b : List ℕ) (r : Passed) (a : L
   pub passes : Passes z.low z.count z.room (givens before)
   pub refused : Refused
       (next_codes (low_after z.low (givens before)) (z.count + length (givens before)) (z.room - 80 * length (givens before)) one.given)
-      r.tally.code
+      (refusal_number r.refusal)
   pub named : r.line ≡ one.line
   pub long : length a ≡ length b
 
-abbrev pub Gathers : List Line → Tally → List ℕ → Passed → List ℕ → Type 0
-Gathers gs z b r a = Moved (givens gs) 0 z b r.tally a ⊎ Halts gs z b r a
+abbrev pub Gathers : List Line → Tally → List ℕ → Result Tally RefusedLine → List ℕ → Type 0
+Gathers gs z b (Ok r) a = Moved (givens gs) 0 z b r a
+Gathers gs z b (Err r) a = Halts gs z b r a

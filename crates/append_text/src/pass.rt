@@ -8,13 +8,14 @@ ghost use Rattle.record_text.specs.Faults.{Silent, form_codes};
 ghost use Rattle.record_text.specs.Values.{given_of, said_in};
 ghost use Rattle.append_text.specs.Passes.{handed, givens_by, Gathers};
 
-use crate::Passed;
+use crate::RefusedLine;
 use crate::values::{coords_at, id_at, kind_at, limit_at};
 use batch::{Tally, take};
+use faults::refusal::Refusal;
 use record_text::lines::{line_end, silent};
 
 // Tries what is handed over of the line at a place, which counts.
-fn take_record(t: &[u8], at: usize, s: Tally, out: &mut [u8]) -> Tally
+fn take_record(t: &[u8], at: usize, s: Tally, out: &mut [u8]) -> Result<Tally, Refusal>
     requires inside { at ≤ length t.now }
     requires fits { number_of (first_of (line (drop at t.now))) < 4294967296 }
     requires few { s.taken ≤ s.count }
@@ -30,24 +31,23 @@ fn take_record(t: &[u8], at: usize, s: Tally, out: &mut [u8]) -> Tally
 }
 
 // Tries the record of the line at a place, if it counts.
-fn take_line(t: &[u8], at: usize, s: Tally, out: &mut [u8]) -> Tally
+fn take_line(t: &[u8], at: usize, s: Tally, out: &mut [u8]) -> Result<Tally, Refusal>
     requires inside { at ≤ length t.now }
     requires fits { ¬ Silent (line (drop at t.now)) → number_of (first_of (line (drop at t.now))) < 4294967296 }
     requires few { s.taken ≤ s.count }
     requires long { 64000 ≤ length out.old }
-    requires clean { s.code ≡ 0 }
     ensures { Moves (givens_by (line (drop at t.now))) 0 s out.old result out.new }
 {
     if silent(t, at) {
-        return s;
+        return Ok(s);
     }
     take_record(t, at, s, out)
 }
 
 // All lines of a text, up to the first whose record is refused.
-pub fn gather(t: &[u8], first: Tally, out: &mut [u8]) -> Passed
+pub fn gather(t: &[u8], first: Tally, out: &mut [u8]) -> Result<Tally, RefusedLine>
     requires good { Accepted (form_codes t.now) }
-    requires fresh { (first.code ≡ 0) × (first.taken ≡ 0) × (first.count ≤ 800) }
+    requires fresh { (first.taken ≡ 0) × (first.count ≤ 800) }
     requires long { 64000 ≤ length out.old }
     ensures { Gathers (said_in 1 (lines t.now)) first out.old result out.new }
 {
@@ -56,12 +56,12 @@ pub fn gather(t: &[u8], first: Tally, out: &mut [u8]) -> Passed
     let mut n: u64 = 1;
     while at < t.len() {
         let end = line_end(t, at);
-        s = take_line(t, at, s, out);
-        if s.code != 0 {
-            return Passed { tally: s, line: n };
-        }
+        s = match take_line(t, at, s, out) {
+            Ok(tally) => tally,
+            Err(refusal) => return Err(RefusedLine { refusal, line: n }),
+        };
         at = end + 1;
         n += 1;
     }
-    Passed { tally: s, line: 0 }
+    Ok(s)
 }

@@ -10,10 +10,7 @@ use mesh_text::word::{number, value};
 fn byte(n: u64) -> u8
     ensures { result ≡ min 255 n }
 {
-    if n < 255 {
-        return n as u8;
-    }
-    255
+    n.min(255) as u8
 }
 
 // The id in the line at a place.
@@ -55,16 +52,14 @@ fn coords_from(t: &[u8], at: usize, xs: &mut [i64]) -> usize
     ensures read { take result xs.new ≡ map (clipped 4294967295) (take (length xs.old) (line (drop at t.now))) }
 {
     let mut p = at;
-    let mut i: usize = 0;
-    while i < xs.len() {
+    for i in 0..xs.len() {
         if over(from(t, p)) {
             return i;
         }
         xs[i] = value(first(from(t, p)));
         p = word_after(t, p);
-        i += 1;
     }
-    i
+    xs.len()
 }
 
 // The coordinates in the line at a place.

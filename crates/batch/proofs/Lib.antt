@@ -1,4 +1,3 @@
-pub mod Copies
 pub mod Opened
 pub mod Tallies
 pub mod Takes

@@ -48,9 +48,9 @@ module _ (b : List ℕ) (used : ℕ) (a : Accepted (buffer_codes b used)) where
         w ∙ ap₂ (λ (v : List ℕ) (k : ℕ). over (over b used v) 5 (bytes 4 k)) front-is m.carried.count_is in
         rw e (series-passes b used y a f m.passes)
 
-  pub batch-stopped : {gs : List Given} {s : Tally} {o c : List ℕ}
+  pub batch-stopped : {gs : List Given} {d : ℕ} {o c : List ℕ}
       → Bytes b
       → IdsFit gs
-      → Halted gs (opening b used) o s c
-      → (left : List ℕ) × Series b used gs (record { code = s.code; number = 0; used = 0 }) left
+      → Halted gs (opening b used) o d c
+      → (left : List ℕ) × Series b used gs (record { code = d; number = 0; used = 0 }) left
   batch-stopped y f h = series-stops b used y a f h.stops

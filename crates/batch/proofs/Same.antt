@@ -8,6 +8,9 @@ use mathlib.Core.Path.{◌≡◌, ap, ◌∙◌}
 use mathlib.Core.List.{List, [], ◌∷◌}
 use mathlib.Core.Logic.{inl, inr}
 use Prim.Native.Nat.{ℕ, suc, ◌*◌}
+use Rattle.std.specs.Prelude.{Result, Ok, Err}
+use Rattle.faults.specs.declared.refusal.Refusal.{Refusal}
+use Rattle.faults.specs.Refusal.{number_of}
 use Rattle.element.specs.Refusals.{Codes, no_more, code, Refused, Accepted, Coded, refused, accepted}
 use Rattle.endian.specs.Numbers.{over}
 use Rattle.record.specs.declared.Record.{Record}
@@ -48,20 +51,19 @@ one-stops (later a t) = absurd (none t)
     none : {l n m d : ℕ} → Stops l n m [] d → ⊥
     none = elim [ ]
 
-pub same-moves : {g h : Given} {p : ℕ} {s r : Tally} {b a : List ℕ}
+pub same-moves : {g h : Given} (p : ℕ) (s : Tally) (b a : List ℕ) (r : Result Tally Refusal)
     → SameCodes (next_codes s.low s.count s.room g) (next_codes s.low s.count s.room h)
     → g.id ≡ h.id
     → (Accepted (next_codes s.low s.count s.room h) → given g ≡ given h)
     → Moves (g ∷ []) p s b r a
     → Moves (h ∷ []) p s b r a
-same-moves {g} {h} {p} {s} {r} {b} {a} o e f (inl m) =
+same-moves {g} {h} p s b a (Ok r) o e f m =
     let k = same-accepted o (one_passes m.passes) in
-    inl (record {
-      clean = m.clean;
+    record {
       passes = first k empty;
       carried = record { low_is = m.carried.low_is ∙ ap suc e; count_is = m.carried.count_is; room_is = m.carried.room_is };
       counted = m.counted;
       left_out = m.left_out;
       written = m.written ∙ ap (λ (q : Record). over b (80 * s.taken) (records_bytes (q ∷ []))) (f k);
-    })
-same-moves {s = s} {r = r} o e f (inr m) = inr (record { stops = here (same-refused r.code o (one-stops m.stops)); long = m.long })
+    }
+same-moves p s b a (Err e) o q f m = record { stops = here (same-refused (number_of e) o (one-stops m.stops)); long = m.long }

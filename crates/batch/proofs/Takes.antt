@@ -31,17 +31,16 @@ module _ (s : Tally) (g : Given) where
   pub tried-room : Tried → (s.count < 800) × (80 ≤ s.room)
   tried-room a = (N.lt_of_not-le a.1.1.1.1.1.1.0, omega (arith, N.lt_of_not-le a.1.1.1.1.1.1.1.0))
 
-  pub taken-halted : (t : Tally) (b : List ℕ) → Refused (next_codes s.low s.count s.room g) t.code → Halted (g ∷ []) s b t b
-  taken-halted t b r = record { stops = here r; long = refl }
+  pub taken-halted : (c : ℕ) (b : List ℕ) → Refused (next_codes s.low s.count s.room g) c → Halted (g ∷ []) s b c b
+  taken-halted c b r = record { stops = here r; long = refl }
 
   pub taken-moved : (t : Tally) (b a : List ℕ)
       → Tried
-      → t ≡ record { code = 0; low = g.id + 1; count = s.count + 1; room = s.room - 80; taken = s.taken + 1; passed = s.passed }
+      → t ≡ record { low = g.id + 1; count = s.count + 1; room = s.room - 80; taken = s.taken + 1; passed = s.passed }
       → a ≡ over b (80 * s.taken) (record_bytes (given g))
       → Moved (g ∷ []) 0 s b t a
   taken-moved t b a k e w =
       record {
-        clean = ap (λ u. u.code) e;
         passes = first k empty;
         carried = record {
           low_is = ap (λ u. u.low) e ∙ add-one g.id;

@@ -5,11 +5,9 @@
 --   moved_more, moved-halted : what moved, and then moves on or halts
 --   halted-front   : what halts, whatever would have come behind it
 --   moved_length   : the bytes keep their number
---   moves-halted, moves-moved : which of the two, by the code
 -- Assumes nothing.
 use mathlib.Core.Path.{◌≡◌, refl, sym, ap, ap₂, ◌∙◌}
 use mathlib.Core.List.{List, [], ◌∷◌, ◌++◌, map-append}
-use mathlib.Core.Logic.{inl, inr}
 use Prim.Native.Nat.{ℕ, suc, ◌+◌, ◌*◌, ◌≤◌}
 use native.Mathlib.Omega.{arith}
 use lib.ListN.{length, take, drop, length-append, take-append-drop}
@@ -23,10 +21,9 @@ use Rattle.block.proofs.Blocks.{records-more}
 use Rattle.append.specs.Append.{follow_codes}
 use Rattle.append.specs.Series.{Given, given, records, low_after, Carried, Stops, here, later, Passes, empty, first}
 use Rattle.append.proofs.Fronts.{carried_none, passes_append, stops-append}
-use Rattle.append.proofs.Series.{stops-some}
 use Rattle.append.proofs.Turns.{short-given, given-length}
 use Rattle.batch.specs.declared.Tally.{Tally}
-use Rattle.batch.specs.Tallies.{Moved, Halted, Moves}
+use Rattle.batch.specs.Tallies.{Moved, Halted}
 
 pub passes-sized : {low count room : ℕ} {gs : List Given} → Passes low count room gs
     → length (records_bytes (records gs)) ≡ 80 * length gs
@@ -57,17 +54,15 @@ records-append : (gs hs : List Given)
     → records_bytes (records (gs ++ hs)) ≡ records_bytes (records gs) ++ records_bytes (records hs)
 records-append gs hs = ap records_bytes (map-append given gs hs) ∙ records-more (records gs) (records hs)
 
-pub moved_none : (s : Tally) (b : List ℕ) → s.code ≡ 0 → Moved [] 0 s b s b
-moved_none s b c =
-    record { clean = c; passes = empty; carried = carried_none; counted = omega arith; left_out = omega arith; written = over_none b (80 * s.taken) }
+pub moved_none : (s : Tally) (b : List ℕ) → Moved [] 0 s b s b
+moved_none s b =
+    record { passes = empty; carried = carried_none; counted = omega arith; left_out = omega arith; written = over_none b (80 * s.taken) }
 
 pub moved-passed : (s r : Tally) (b : List ℕ)
-    → s.code ≡ 0
-    → r ≡ record { code = s.code; low = s.low; count = s.count; room = s.room; taken = s.taken; passed = s.passed + 1 }
+    → r ≡ record { low = s.low; count = s.count; room = s.room; taken = s.taken; passed = s.passed + 1 }
     → Moved [] 1 s b r b
-moved-passed s r b c e =
+moved-passed s r b e =
     record {
-      clean = ap (λ u. u.code) e ∙ c;
       passes = empty;
       carried = record { low_is = ap (λ u. u.low) e; count_is = ap (λ u. u.count) e ∙ omega arith; room_is = ap (λ u. u.room) e ∙ omega arith };
       counted = ap (λ u. u.taken) e ∙ omega arith;
@@ -81,8 +76,8 @@ moved_length {gs} {s = s} {b = b} m h =
     ap length m.written
     ∙ length_over (records_bytes (records gs)) b (80 * s.taken) (omega (arith, passes-sized m.passes))
 
-module _ {gs hs : List Given} {p : ℕ} {s r u : Tally} {b a c : List ℕ} (m : Moved gs p s b r a) where
-  pub moved_more : {q : ℕ} → Moved hs q r a u c → 80 * (s.taken + length gs + length hs) ≤ length b → Moved (gs ++ hs) (p + q) s b u c
+module _ {gs hs : List Given} {p : ℕ} {s r : Tally} {b a c : List ℕ} (m : Moved gs p s b r a) where
+  pub moved_more : {q : ℕ} {u : Tally} → Moved hs q r a u c → 80 * (s.taken + length gs + length hs) ≤ length b → Moved (gs ++ hs) (p + q) s b u c
   moved_more n h =
       let v = records_bytes (records gs) in
       let w = records_bytes (records hs) in
@@ -90,7 +85,6 @@ module _ {gs hs : List Given} {p : ℕ} {s r u : Tally} {b a c : List ℕ} (m : 
       let g = passes-sized n.passes in
       let place : 80 * r.taken ≡ 80 * s.taken + length v = omega (arith, m.counted, f) in
       record {
-        clean = n.clean;
         passes = passes_append m.carried m.passes n.passes;
         carried = carried-append m.carried n.carried;
         counted = omega (arith, m.counted, n.counted, length-append gs hs);
@@ -102,22 +96,12 @@ module _ {gs hs : List Given} {p : ℕ} {s r u : Tally} {b a c : List ℕ} (m : 
             ∙ ap (over b (80 * s.taken)) (sym (records-append gs hs));
       }
 
-  pub moved-halted : Halted hs r a u c → 80 * (s.taken + length gs) ≤ length b → Halted (gs ++ hs) s b u c
+  pub moved-halted : {d : ℕ} → Halted hs r a d c → 80 * (s.taken + length gs) ≤ length b → Halted (gs ++ hs) s b d c
   moved-halted n h = record { stops = stops-append m.carried m.passes n.stops; long = n.long ∙ moved_length m h }
 
 stops-front : {low count room c : ℕ} {gs : List Given} (hs : List Given) → Stops low count room gs c → Stops low count room (gs ++ hs) c
 stops-front hs (here r) = here r
 stops-front hs (later a s) = later a (stops-front hs s)
 
-pub halted-front : {gs : List Given} (hs : List Given) {s r : Tally} {b a : List ℕ} → Halted gs s b r a → Halted (gs ++ hs) s b r a
+pub halted-front : {gs : List Given} (hs : List Given) {s : Tally} {c : ℕ} {b a : List ℕ} → Halted gs s b c a → Halted (gs ++ hs) s b c a
 halted-front hs h = record { stops = stops-front hs h.stops; long = h.long }
-
--- ---- by the code
-module _ {gs : List Given} {p : ℕ} {s r : Tally} {b a : List ℕ} where
-  pub moves-halted : Moves gs p s b r a → ¬ (r.code ≡ 0) → Halted gs s b r a
-  moves-halted (inl m) n = absurd (n m.clean)
-  moves-halted (inr h) n = h
-
-  pub moves-moved : Moves gs p s b r a → r.code ≡ 0 → Moved gs p s b r a
-  moves-moved (inl m) e = m
-  moves-moved (inr h) e = absurd (stops-some h.stops e)

@@ -1,7 +1,6 @@
 // Records that are tried one after another behind a good block, and written at once.
 #![tactic(auto)]
 
-mod bytes;
 mod narrow;
 
 ghost use Rattle.std.specs.Prelude.{◌≡◌, [], ◌∷◌, ◌+◌, ◌-◌, ◌*◌, ◌≤◌, ◌<◌, length, take};
@@ -12,16 +11,15 @@ ghost use Rattle.append.specs.Append.{buffer_codes};
 ghost use Rattle.batch.specs.Tallies.{opening, Moves};
 
 use append::{lowest_id, next_code, pad, put_record};
-use bytes::copy;
 use endian::put_u32;
+use faults::refusal::Refusal;
 use narrow::narrowed;
 use record::Record;
 
-// What a pass has met: the code of the first refusal, the least id that may follow, how many records the block has with those
-// taken, the bytes behind them, how many were taken, and how many were passed over.
+// What a pass has met: the least id that may follow, how many records the block has with those taken, the bytes behind them, how
+// many were taken, and how many were passed over.
 #[derive(Clone, Copy)]
 pub struct Tally {
-    pub code: u8,
     pub low: u64,
     pub count: u32,
     pub room: usize,
@@ -35,27 +33,10 @@ pub fn begin(buffer: &[u8], n: usize, count: u32) -> Tally
     requires counted { count ≡ count_of (take n buffer.now) }
     ensures { result ≡ opening buffer.now n }
 {
-    let low = lowest_id(&buffer[..n], count);
-    let room = buffer.len() - n;
     Tally {
-        code: 0,
-        low,
+        low: lowest_id(&buffer[..n], count),
         count,
-        room,
-        taken: 0,
-        passed: 0,
-    }
-}
-
-// The tally of a refusal.
-pub fn refused(code: u8) -> Tally
-    ensures { result ≡ record { code = code; low = 0; count = 0; room = 0; taken = 0; passed = 0 } }
-{
-    Tally {
-        code,
-        low: 0,
-        count: 0,
-        room: 0,
+        room: buffer.len() - n,
         taken: 0,
         passed: 0,
     }
@@ -64,50 +45,42 @@ pub fn refused(code: u8) -> Tally
 // The tally with one more that is passed over.
 pub fn one_passed(s: Tally) -> Tally
     requires { s.passed < 18446744073709551615 }
-    ensures { result ≡ record { code = s.code; low = s.low; count = s.count; room = s.room; taken = s.taken; passed = s.passed + 1 } }
+    ensures { result ≡ record { low = s.low; count = s.count; room = s.room; taken = s.taken; passed = s.passed + 1 } }
 {
     Tally {
-        code: s.code,
-        low: s.low,
-        count: s.count,
-        room: s.room,
-        taken: s.taken,
         passed: s.passed + 1,
+        ..s
     }
 }
 
 // The tally with one more that is taken.
 fn one_more(s: Tally, id: u32) -> Tally
     requires { (s.count < 800) × (s.taken ≤ s.count) × (80 ≤ s.room) }
-    ensures { result ≡ record { code = 0; low = id + 1; count = s.count + 1; room = s.room - 80; taken = s.taken + 1; passed = s.passed } }
+    ensures { result ≡ record { low = id + 1; count = s.count + 1; room = s.room - 80; taken = s.taken + 1; passed = s.passed } }
 {
-    let count = s.count;
-    let room = s.room;
-    let taken = s.taken;
-    let passed = s.passed;
     Tally {
-        code: 0,
-        low: id as u64 + 1,
-        count: count + 1,
-        room: room - 80,
-        taken: taken + 1,
-        passed,
+        low: u64::from(id) + 1,
+        count: s.count + 1,
+        room: s.room - 80,
+        taken: s.taken + 1,
+        passed: s.passed,
     }
 }
 
 // Tries a record, and writes it behind those that were taken.
-fn take_held(s: Tally, id: u32, kind: u8, limit: u8, coords: &[i32], out: &mut [u8]) -> Tally
+fn take_held(
+    s: Tally,
+    id: u32,
+    kind: u8,
+    limit: u8,
+    coords: &[i32],
+    out: &mut [u8],
+) -> Result<Tally, Refusal>
     requires few { s.taken ≤ s.count }
     requires long { 64000 ≤ length out.old }
     ensures { Moves (record { id = id; kind = kind; limit = limit; coords = coords.now } ∷ []) 0 s out.old result out.new }
 {
-    let low = s.low;
-    let count = s.count;
-    let room = s.room;
-    let code = next_code(low, count, room, id, kind, limit, coords);
-    if code != 0 {
-        return refused(code);
-    }
+    next_code(s.low, s.count, s.room, id, kind, limit, coords)?;
     let from = 80 * (s.taken as usize);
     let zs = pad(coords);
     put_record(
@@ -122,19 +95,25 @@ fn take_held(s: Tally, id: u32, kind: u8, limit: u8, coords: &[i32], out: &mut [
             coords: zs,
         },
     );
-    one_more(s, id)
+    Ok(one_more(s, id))
 }
 
 // Tries a record of any numbers, and writes it behind those that were taken: a number that is no i32 is outside.
-pub fn take(s: Tally, id: u32, kind: u8, limit: u8, coords: &[i64], out: &mut [u8]) -> Tally
+pub fn take(
+    s: Tally,
+    id: u32,
+    kind: u8,
+    limit: u8,
+    coords: &[i64],
+    out: &mut [u8],
+) -> Result<Tally, Refusal>
     requires few { s.taken ≤ s.count }
     requires long { 64000 ≤ length out.old }
     requires short { length coords.now ≤ 19 }
     ensures { Moves (record { id = id; kind = kind; limit = limit; coords = coords.now } ∷ []) 0 s out.old result out.new }
 {
     let zs = narrowed(coords);
-    let n = coords.len();
-    take_held(s, id, kind, limit, &zs[..n], out)
+    take_held(s, id, kind, limit, &zs[..coords.len()], out)
 }
 
 // Writes the records that were taken behind the block, and the count; answers how many bytes are used.
@@ -144,10 +123,8 @@ pub fn finish(buffer: &mut [u8], used: u64, s: Tally, out: &[u8]) -> u64
     ensures answer { result ≡ used + 80 * s.taken }
 {
     let n = used as usize;
-    let taken = s.taken;
-    let count = s.count;
-    let m = 80 * (taken as usize);
-    copy(buffer, n, &out[..m]);
-    put_u32(buffer, 5, count);
-    used + (m as u64)
+    let m = 80 * (s.taken as usize);
+    buffer[n..n + m].copy_from_slice(&out[..m]);
+    put_u32(buffer, 5, s.count);
+    used + m as u64
 }

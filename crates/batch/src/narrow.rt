@@ -11,17 +11,15 @@ fn all_held(xs: &[i64]) -> bool
     let most = 2147483647;
     let least = 0 - 2147483648;
     let mut all = true;
-    let mut k = 0;
-    while k < xs.len() {
-        let x = xs[k];
-        all = all & (x <= most) & (least <= x);
-        k += 1;
+    for x in xs {
+        all = all & (*x <= most) & (least <= *x);
     }
     all
 }
 
 // Nineteen i32 in place of numbers up to as many: the same, and zeros behind them; where one of them is none, a list that is outside
 // for every kind.
+// stays (1): 1, 2 and 3 come before 4 (next_codes), so the list in place of numbers that are no i32 is tried as any other (specs/Stands, Narrowed)
 pub fn narrowed(xs: &[i64]) -> [i32; 19]
     requires { length xs.now ≤ 19 }
     ensures { Narrowed xs.now result }
@@ -31,10 +29,8 @@ pub fn narrowed(xs: &[i64]) -> [i32; 19]
         zs[2] = 2147483647;
         return zs;
     }
-    let mut k = 0;
-    while k < xs.len() {
-        zs[k] = xs[k] as i32;
-        k += 1;
+    for (k, x) in xs.iter().enumerate() {
+        zs[k] = *x as i32;
     }
     zs
 }

@@ -2,19 +2,22 @@
 --   coord-x, coord-y : x and y of our node k
 --   name-is        : its number
 --   fill-two       : both stored
+--   listed-sized, listed-few, listed-small : the places in Gmsh's order, as many as the type has nodes, nine at most, each below nine
 -- Assumes nothing.
 use mathlib.Core.Path.{◌≡◌, ap, ◌∙◌, subst}
 use mathlib.Core.List.{List}
-use Prim.Native.Nat.{ℕ, ◌+◌, ◌*◌, ◌/◌, ◌%◌, ◌<◌}
+use Prim.Native.Nat.{ℕ, ◌+◌, ◌*◌, ◌/◌, ◌%◌, ◌<◌, ◌≤◌}
 use native.Mathlib.Omega.{arith}
 use lib.IntN.{ℤ}
 use Rattle.mesh_form.specs.Mesh.{Row}
-use lib.ListN.{get_or, set}
+use lib.ListN.{get_or, set, length}
 use Rattle.algebra.specs.Fill.{Filled}
 use Rattle.algebra.proofs.Fill.{fill_more}
-use Rattle.mesh_form.specs.Values.{word, type_of, nine}
+use Rattle.mesh_form.specs.Values.{word, type_of, nine, size_of_type}
+use Rattle.mesh_form.proofs.Said.{size_small}
 use Rattle.mesh_nodes.specs.Nodes.{row_of}
 use Rattle.mesh_elements.specs.Orders.{order}
+use Rattle.mesh_elements.proofs.Orders.{order-sized, order-some, order_small}
 use Rattle.mesh_elements.specs.Rows.{name_of, coord_of}
 
 module _ (v : List ℕ → ℤ) (rs : List Row) (r : Row) (k : ℕ) where
@@ -48,3 +51,14 @@ pub fill-two : {n : ℕ} (k : ℕ) {f : ℕ → ℤ} {l : List ℤ} {x y : ℤ} 
 fill-two {n} k {f} {l} {x} {y} p h a b =
     let two : 2 * k + 1 + 1 ≡ 2 * (k + 1) = omega arith in
     subst (λ m. Filled n m f (set (set l (2 * k) x) (2 * k + 1) y)) two (fill_more (fill_more p (omega arith) a) h b)
+
+-- the places in Gmsh's order
+module _ (k : ℕ) (l : List ℕ) (e : l ≡ order k) where
+  pub listed-sized : length l ≡ size_of_type k
+  listed-sized = ap length e ∙ order-sized k
+
+  pub listed-few : length l ≤ 9
+  listed-few = omega (arith, listed-sized, size_small k)
+
+  pub listed-small : (i : ℕ) → i < length l → get_or l i 0 < 9
+  listed-small i h = omega (arith, order_small k i (order-some k i (omega (arith, ap length e))), ap (λ m. get_or m i 0) e)

@@ -1,6 +1,7 @@
 -- Each node of ours stands where Gmsh's picture has it (docs/GMSH.md, G24).
 --   by-type        : the three types that are ours
---   order-six, order-nine, order-eight : their orders
+--   order-six, order-nine, order-eight, order_none : their orders, and none for another type
+--   order-sized, order-some : as many as the type has nodes, none for another type
 --   order-length, order-within, order_small : as many as the kind has nodes, each one of them; and one of nine
 --   gmsh-length    : Gmsh's picture of a type has as many places as its elements have nodes
 --   order-places   : the node that is taken for ours stands at the place of ours
@@ -11,7 +12,7 @@ use mathlib.Core.Bool.{Bool, true, ◌&&◌}
 use mathlib.Core.List.{List, [], ◌∷◌, map}
 use Prim.Native.Nat.{ℕ, zero, suc, ◌+◌, ◌*◌, ◌<◌}
 use native.Mathlib.Omega.{arith}
-use borrow.Author.Tests.{eqb-true, eqb-false, ltb-true}
+use borrow.Author.Tests.{eqb-true, eqb-false, ltb-true, ne_eqb}
 use lib.Dec.{eqb, ltb}
 use lib.ListN.{length, get_or}
 use Rattle.mesh_text.specs.Rows.{All, none, both}
@@ -38,6 +39,10 @@ module _ (k : ℕ) where
   pub order-eight : k ≡ 16 → order 16 ≡ order k
   order-eight e = sym (ap order e)
 
+  pub order_none : ¬ (k ≡ 9) → ¬ (k ≡ 10) → ¬ (k ≡ 16) → [] ≡ order k
+  unfolding order
+  order_none a b c = rw (ne_eqb k 9 a, ne_eqb k 10 b, ne_eqb k 16 c) refl
+
   pub order-length : ¬ (size_of_type k ≡ 0) → length (order k) ≡ size_of_type k
   unfolding order
   order-length n =
@@ -45,6 +50,18 @@ module _ (k : ℕ) where
       (λ e. sym (ap length (order-six e)) ∙ size-six k e)
       (λ e. sym (ap length (order-nine e)) ∙ size-nine k e)
       (λ e. sym (ap length (order-eight e)) ∙ size-eight k e)
+
+  -- and none for another type
+  pub order-sized : length (order k) ≡ size_of_type k
+  order-sized =
+      by-test (eqb (size_of_type k) 0) (length (order k) ≡ size_of_type k)
+      (λ z. let e = eqb-true (size_of_type k) 0 z in
+      sym (ap length (order_none (λ a. absurd (omega (arith, size-six k a))) (λ a. absurd (omega (arith, size-nine k a))) (λ a. absurd (omega (arith, size-eight k a))))) ∙ sym e)
+      (λ z. order-length (eqb-false (size_of_type k) 0 z))
+
+  -- nodes of which there are some
+  pub order-some : (j : ℕ) → j < length (order k) → ¬ (size_of_type k ≡ 0)
+  order-some j h z = absurd (omega (arith, order-sized))
 
 -- ---- each a place of Gmsh's
 abbrev below_b : ℕ → List ℕ → Bool

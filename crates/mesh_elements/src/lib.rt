@@ -1,7 +1,7 @@
 // The elements of a text that are ours: their coordinates in our order.
 #![tactic(auto)]
 
-ghost use Rattle.std.specs.Prelude.{◌≡◌, map, ◌*◌, ◌<◌, get_or, drop, take};
+ghost use Rattle.std.specs.Prelude.{◌≡◌, map, ◌*◌, drop, take};
 ghost use Rattle.mesh_text.specs.Rows.{line};
 ghost use Rattle.mesh_text.specs.Tests.{clipped};
 ghost use Rattle.mesh_form.specs.Mesh.{Repeats};
@@ -10,26 +10,21 @@ ghost use Rattle.mesh_nodes.specs.Nodes.{nodes_in, Seats};
 ghost use Rattle.mesh_elements.specs.Orders.{order};
 ghost use Rattle.mesh_elements.specs.Rows.{coords_of};
 
-use mesh_form::values::{nine_at, size_of, type_at};
+use mesh_form::values::{nine_at, type_at};
 use mesh_nodes::find::find;
 use mesh_text::row::{first, from, rest};
 use mesh_text::word::value;
 
-// The place in Gmsh's order of our node k, for the types that are ours.
-fn gmsh_place(kind: u64, k: usize) -> usize
-    requires { k < size_of_type kind }
-    ensures { (result ≡ get_or (order kind) k 0) × (result < 9) }
+// For each node of ours, in our order, its place in Gmsh's order; no node for a type that is not ours.
+fn order_of(kind: u64) -> &'static [usize]
+    ensures { result.now ≡ order kind }
 {
-    if kind == 9 {
-        let six: [usize; 6] = [0, 1, 2, 3, 4, 5];
-        return six[k];
+    match kind {
+        9 => &[0, 1, 2, 3, 4, 5],
+        10 => &[0, 4, 1, 7, 8, 5, 3, 6, 2],
+        16 => &[0, 4, 1, 7, 5, 3, 6, 2],
+        _ => &[],
     }
-    if kind == 10 {
-        let nine: [usize; 9] = [0, 4, 1, 7, 8, 5, 3, 6, 2];
-        return nine[k];
-    }
-    let eight: [usize; 8] = [0, 4, 1, 7, 5, 3, 6, 2];
-    eight[k]
 }
 
 // The x of the node in the row at a place.
@@ -52,18 +47,13 @@ pub fn coords_at(t: &[u8], numbers: &[u64], places: &[usize], at: usize) -> [i64
     requires once { ¬ Repeats (map id_of (nodes_in t.now)) }
     ensures { take (2 * size_of_type (type_of (line (drop at t.now)))) result ≡ coords_of (clipped 4294967295) (nodes_in t.now) (line (drop at t.now)) }
 {
-    let kind = type_at(t, at);
-    let size = size_of(kind);
+    let order = order_of(type_at(t, at));
     let names = nine_at(t, at);
     let mut out = [0i64; 18];
-    let mut k: usize = 0;
-    while k < size {
-        let j = gmsh_place(kind, k);
-        let p = find(t, numbers, places, names[j]);
-        let i = 2 * k;
-        out[i] = x_at(t, p);
-        out[i + 1] = y_at(t, p);
-        k += 1;
+    for (k, j) in order.iter().enumerate() {
+        let p = find(t, numbers, places, names[*j]);
+        out[2 * k] = x_at(t, p);
+        out[2 * k + 1] = y_at(t, p);
     }
     out
 }

@@ -15,9 +15,8 @@ use Rattle.mesh_text.proofs.Rows.{rows-nil, by-test}
 use Rattle.mesh_text.specs.Rows.{rows, line, RowAt, RowAfter}
 use Rattle.mesh_form.specs.declared.Part.{Part}
 use Rattle.mesh_form.specs.declared.Cursor.{Cursor}
-use Rattle.mesh_form.specs.declared.Found.{Found}
 use Rattle.mesh_form.specs.Mesh.{Row}
-use Rattle.mesh_form.specs.Walk.{State, outside, before_format, behind_format, before_count, within, passing, bad, step, items_at, items, final, kind_of, items_of, items_from, meaning, Reads}
+use Rattle.mesh_form.specs.Walk.{Found, State, outside, before_format, behind_format, before_count, within, passing, bad, step, items_at, items, final, kind_of, items_of, items_from, meaning, Reads}
 
 pub items_at-is : (s : State) (r : Row) → items_at s r ≡ items_of (kind_of s) r
 unfolding items_at kind_of

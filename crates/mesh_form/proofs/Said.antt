@@ -8,6 +8,7 @@
 --   padded-step, padded-end : one number more; all of them
 --   nine-is, nine-length : the numbers behind three words and the tags
 --   size-six, size-nine, size-eight, size_none, size_small : the number of nodes, type by type
+--   nine-enough    : the nine numbers have room for them
 -- Assumes nothing.
 use mathlib.Core.Path.{◌≡◌, refl, sym, ap, ◌∙◌}
 use mathlib.Core.Bool.{true, cond, true≢false}
@@ -132,7 +133,7 @@ element-is {r} {e} h =
     ∙ ap (λ x. record { number = id_of r; type = type_of r; nodes = x }) (sym (names-are h))
 
 -- ---- types that are ours
-types : (k : ℕ) (P : Type 0)
+pub types : (k : ℕ) (P : Type 0)
     → (k ≡ 9 → size_of_type k ≡ 6 → P)
     → (k ≡ 10 → size_of_type k ≡ 9 → P)
     → (k ≡ 16 → size_of_type k ≡ 8 → P)
@@ -194,3 +195,7 @@ module _ (k : ℕ) where
 
   pub size_none : (k ≡ 9 → ⊥) → (k ≡ 10 → ⊥) → (k ≡ 16 → ⊥) → 0 ≡ size_of_type k
   size_none a b c = types k (0 ≡ size_of_type k) (λ e f. absurd (a e)) (λ e f. absurd (b e)) (λ e f. absurd (c e)) (λ e. sym e)
+
+-- the nine have room for the nodes of a type that is ours
+pub nine-enough : (k s : ℕ) (r : Row) (ns : List ℕ) → s ≡ size_of_type k → ns ≡ nine r → s ≤ length ns
+nine-enough k s r ns e f = omega (arith, size_small k, ap length f, nine-length r)

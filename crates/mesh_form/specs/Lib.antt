@@ -3,3 +3,4 @@ pub mod Mesh
 pub mod Told
 pub mod Walk
 pub mod Values
+pub mod Items

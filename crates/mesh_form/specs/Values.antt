@@ -4,10 +4,11 @@
 --   names_of r      == its node numbers, behind three words and the tags
 --   node_of r, element_of r == the node, and the element, that a row says
 --   size_of_type k   == how many nodes the types 9, 10 and 16 have, the types that are ours; 0 for any other
+--   size_number s    == the same of the code's answer, 0 for none
 --   nine r         == the first nine node numbers of an element's row, 2^32 for each that is missing
 --   wanted_of r     == the node numbers of a row of ours; none of another's
 -- Definitions only.
-use Rattle.std.specs.Prelude.{cond, List, [], ◌++◌, map, ℕ, ◌+◌, eqb, get_or, take, drop, replicate}
+use Rattle.std.specs.Prelude.{cond, List, [], ◌++◌, map, ℕ, ◌+◌, eqb, get_or, take, drop, replicate, Option, None, Some}
 use Rattle.mesh_text.specs.Tests.{number_of}
 use Rattle.mesh_form.specs.Mesh.{Row, Node, Element}
 
@@ -34,6 +35,10 @@ element_of r = record { number = id_of r; type = type_of r; nodes = names_of r }
 
 unfoldable pub size_of_type : ℕ → ℕ
 size_of_type k = cond (eqb k 9) 6 (cond (eqb k 10) 9 (cond (eqb k 16) 8 0))
+
+abbrev pub size_number : Option ℕ → ℕ
+size_number None = 0
+size_number (Some n) = n
 
 unfoldable pub nine : Row → List ℕ
 nine r = take 9 (names_of r ++ replicate 9 4294967296)

@@ -7,20 +7,23 @@
 --   step s r, items_at s r == the state behind the row r, and the row where it is of nodes or elements
 --   kind_of s       == 1 where the next row is of nodes, 2 where it is of elements, else 3
 --   meaning t p, from t c == the state of the code's Part p; the items and the end of the walk from the Cursor c on
---   Reads t c i    == i is what comes at c: a row of the kind i.kind, and the walk goes on from i.next; kind 0: no row is left
+--   kind_number k, row_number k == the number of the code's Kind; of its kind of any row, 3 where that is another
+--   Found          == a row by the number of its kind, 0 for none, its place, and the cursor behind it
+--   Reads m t c i  == i is what comes at c: a row of the kind i.kind, at most m, and the walk goes on from i.next; kind 0: no row is left
 --   form_b rs       == the rows are of the form, but for double numbers
 --   final s rs, items s rs == the state behind all rows, and the rows of nodes and elements among them
 --   items_in t      == those of a text
 --   node_rows is, element_rows is == the rows of nodes, and those of elements
 -- Definitions only.
-use Rattle.std.specs.Prelude.{◌≡◌, Bool, true, false, ◌&&◌, cond, List, [], ◌∷◌, ◌++◌, ℕ, zero, suc, ◌+◌, ◌-◌, ◌≤◌, ◌<◌, eqb, ltb, length, take, drop}
+use Rattle.std.specs.Prelude.{◌≡◌, Bool, true, false, ◌&&◌, cond, List, [], ◌∷◌, ◌++◌, ℕ, zero, suc, ◌+◌, ◌-◌, ◌≤◌, ◌<◌, eqb, ltb, length, take, drop, Option, None, Some}
 use Rattle.mesh_text.specs.declared.Class.TheVariants.{Zero}
 use Rattle.mesh_text.specs.Rows.{first, rest, is_nil, run, in_class, line, rows}
 use Rattle.mesh_text.specs.Tests.{tag_b, number_b, number_of, same_b}
 use Rattle.mesh_form.specs.declared.Part.{Part}
 use Rattle.mesh_form.specs.declared.Part.TheVariants.{Outside, BeforeFormat, BehindFormat, BeforeCount, Within, Passing, Bad}
 use Rattle.mesh_form.specs.declared.Cursor.{Cursor}
-use Rattle.mesh_form.specs.declared.Found.{Found}
+use Rattle.mesh_form.specs.declared.Kind.{Kind}
+use Rattle.mesh_form.specs.declared.Kind.TheVariants.{Node, Element}
 use Rattle.mesh_form.specs.Mesh.{Row, format, nodes, elements}
 
 unfoldable pub positive_b : ℕ → Bool
@@ -168,6 +171,20 @@ items_from t c = items (meaning t c.part) (rows (drop c.at t))
 
 abbrev pub final_from : List ℕ → Cursor → State
 final_from t c = final (meaning t c.part) (rows (drop c.at t))
+
+-- ---- the code's rows
+abbrev pub kind_number : Kind → ℕ
+kind_number Node = 1
+kind_number Element = 2
+
+abbrev pub row_number : Option Kind → ℕ
+row_number None = 3
+row_number (Some k) = kind_number k
+
+pub record Found : Type 0 where
+  pub kind : ℕ
+  pub at : ℕ
+  pub next : Cursor
 
 pub record Reads (most : ℕ) (t : List ℕ) (c : Cursor) (i : Found) : Type 0 where
   pub kinds : i.kind ≤ most

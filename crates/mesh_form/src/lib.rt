@@ -1,6 +1,7 @@
 // The form of a Gmsh text, row by row.
 #![tactic(auto)]
 
+pub mod items;
 pub mod rows;
 pub mod values;
 pub mod walk;
@@ -24,10 +25,16 @@ pub struct Cursor {
     pub part: Part,
 }
 
-// A row: 1 of nodes, 2 of elements, 3 another, 0 for none; its place, and the cursor behind it.
+// What a row of a section is: one of nodes, or one of elements.
 #[derive(Clone, Copy)]
-pub struct Found {
-    pub kind: u8,
+pub enum Kind {
+    Node,
+    Element,
+}
+
+// A row of nodes or elements: its kind and its place.
+#[derive(Clone, Copy)]
+pub struct Item {
+    pub kind: Kind,
     pub at: usize,
-    pub next: Cursor,
 }

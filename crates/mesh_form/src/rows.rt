@@ -1,8 +1,9 @@
 // Tests of single rows. A row is given as the text from its place on.
-ghost use Rattle.std.specs.Prelude.{◌≡◌, cond, ◌-◌, ◌≤◌, eqb, take};
+ghost use Rattle.std.specs.Prelude.{◌≡◌, take};
 ghost use Rattle.mesh_text.specs.Rows.{line};
 ghost use Rattle.mesh_form.specs.Walk.{positive_b, version_b, format_b, node_b, count_b, word_b, left_b, element_b, end_b, mark_b};
 
+use crate::values::size_of;
 use mesh_text::row::{first, from, over, rest, word_after};
 use mesh_text::word::{is_number, is_tag, number, same};
 use mesh_text::{Class, run};
@@ -11,10 +12,7 @@ use mesh_text::{Class, run};
 fn upto(w: &[u8], n: usize) -> &[u8]
     ensures { result.now ≡ take n w.now }
 {
-    if n < w.len() {
-        return &w[..n];
-    }
-    w
+    &w[..n.min(w.len())]
 }
 
 // Whether this is a number above 0.
@@ -86,16 +84,10 @@ pub fn is_mark(t: &[u8]) -> bool
 fn is_count(kind: u64, n: usize) -> bool
     ensures { result ≡ count_b kind n }
 {
-    if kind == 9 {
-        return n == 6;
+    match size_of(kind) {
+        Some(size) => n == size,
+        None => 0 < n,
     }
-    if kind == 10 {
-        return n == 9;
-    }
-    if kind == 16 {
-        return n == 8;
-    }
-    0 < n
 }
 
 // Whether a word is good where so many tags are left: a tag, or a node number.
@@ -106,26 +98,6 @@ fn is_good(w: &[u8], left: u64) -> bool
         return positive(number(w));
     }
     is_tag(w)
-}
-
-// One less, but not below 0.
-fn lower(n: u64) -> u64
-    ensures { result ≡ n - 1 }
-{
-    if n == 0 {
-        return 0;
-    }
-    n - 1
-}
-
-// 1 for 0, else 0.
-fn none(n: u64) -> usize
-    ensures { (result ≡ cond (eqb n 0) 1 0) × (result ≤ 1) }
-{
-    if n == 0 {
-        return 1;
-    }
-    0
 }
 
 // Whether the words are tags and then node numbers, as many as the type has.
@@ -144,8 +116,8 @@ fn is_left(t: &[u8], tags: u64, kind: u64) -> bool
         if !is_good(first(r), left) {
             return false;
         }
-        n += none(left);
-        left = lower(left);
+        n += usize::from(left == 0);
+        left = left.saturating_sub(1);
         at = word_after(t, at);
     }
     let enough = is_count(kind, n);

@@ -1,8 +1,8 @@
 // What good rows say: the number of a node or an element, the type of an element and its node numbers.
-ghost use Rattle.std.specs.Prelude.{◌≡◌, ◌++◌, map, ◌≤◌, length, take, drop, replicate};
+ghost use Rattle.std.specs.Prelude.{◌≡◌, ◌++◌, map, ◌≤◌, ◌<◌, length, take, drop, replicate, IfSome};
 ghost use Rattle.mesh_text.specs.Rows.{line};
 ghost use Rattle.mesh_text.specs.Tests.{number_of};
-ghost use Rattle.mesh_form.specs.Values.{id_of, type_of, nine, size_of_type};
+ghost use Rattle.mesh_form.specs.Values.{id_of, type_of, nine, size_of_type, size_number};
 
 use mesh_text::row::{first, from, over, rest, word_after};
 use mesh_text::word::number;
@@ -27,13 +27,11 @@ fn skip(t: &[u8], at: usize, n: u64) -> usize
     ensures { (result ≤ length t.now) × (line (drop result t.now) ≡ drop n (line (drop at t.now))) }
 {
     let mut p = at;
-    let mut left = n;
-    while 0 < left {
+    for _ in 0..n {
         if over(from(t, p)) {
             return p;
         }
         p = word_after(t, p);
-        left -= 1;
     }
     p
 }
@@ -45,11 +43,9 @@ fn nine_from(t: &[u8], at: usize) -> [u64; 9]
 {
     let mut ns: [u64; 9] = [4294967296; 9];
     let mut p = at;
-    let mut i: usize = 0;
-    while i < 9 {
-        ns[i] = number(first(from(t, p)));
+    for n in ns.iter_mut() {
+        *n = number(first(from(t, p)));
         p = word_after(t, p);
-        i += 1;
     }
     ns
 }
@@ -65,18 +61,15 @@ pub fn nine_at(t: &[u8], at: usize) -> [u64; 9]
     nine_from(row, names)
 }
 
-// How many nodes the elements of a type that is ours have; 0 for any other type.
-pub fn size_of(kind: u64) -> usize
-    ensures { result ≡ size_of_type kind }
+// How many nodes the elements of a type that is ours have.
+pub fn size_of(kind: u64) -> Option<usize>
+    ensures size { size_number result ≡ size_of_type kind }
+    ensures ours { IfSome result (λ n. 0 < n) }
 {
-    if kind == 9 {
-        return 6;
+    match kind {
+        9 => Some(6),
+        10 => Some(9),
+        16 => Some(8),
+        _ => None,
     }
-    if kind == 10 {
-        return 9;
-    }
-    if kind == 16 {
-        return 8;
-    }
-    0
 }

@@ -1,12 +1,13 @@
 // A walk over the rows of a text: from row to row, and from one row of nodes or elements to the next.
-ghost use Rattle.std.specs.Prelude.{◌≡◌, cond, true, List, ℕ, ◌≤◌, eqb, length, drop};
+ghost use Rattle.std.specs.Prelude.{◌≡◌, cond, true, List, ℕ, eqb, drop};
 ghost use Rattle.mesh_text.specs.Rows.{line, rows};
 ghost use Rattle.mesh_form.specs.Mesh.{Formed};
-ghost use Rattle.mesh_form.specs.Walk.{outside, before_format, behind_format, before_count, within, passing, bad, name_of, named, opened as opened_of, end_b, step as step_of, meaning, kind_of, Reads, form_b, done_b, node_b, element_b};
+ghost use Rattle.mesh_form.specs.Walk.{outside, before_format, behind_format, before_count, within, passing, bad, name_of, named, opened as opened_of, end_b, step as step_of, meaning, kind_of, row_number, kind_number, form_b, done_b, node_b, element_b};
 
+use crate::items::Items;
 use crate::rows::{is_element, is_end, is_format, is_mark, is_node};
-use crate::{Cursor, Found, Part};
-use mesh_text::row::{first, from, over, rest, row_after, row_at};
+use crate::{Item, Kind, Part};
+use mesh_text::row::{first, from, over, rest};
 use mesh_text::word::{number, same, tail};
 
 // Before a count, where a format has been seen.
@@ -114,7 +115,7 @@ fn at_passed(t: &[u8], at: usize, seen: bool, p: usize) -> Part
 }
 
 // Where the walk stands behind the row at a place.
-fn step(t: &[u8], at: usize, part: Part) -> Part
+pub(crate) fn step(t: &[u8], at: usize, part: Part) -> Part
     ensures { meaning t.now result ≡ step_of (meaning t.now part) (line (drop at t.now)) }
 {
     match part {
@@ -129,82 +130,37 @@ fn step(t: &[u8], at: usize, part: Part) -> Part
 }
 
 // The kind of the next row within a section.
-fn row_kind(nodes: bool, n: u64) -> u8
-    ensures { result ≡ kind_of (within nodes n) }
+fn row_kind(nodes: bool, n: u64) -> Option<Kind>
+    ensures { row_number result ≡ kind_of (within nodes n) }
 {
     if n == 0 {
-        return 3;
+        return None;
     }
     if nodes {
-        return 1;
+        return Some(Kind::Node);
     }
-    2
+    Some(Kind::Element)
 }
 
-// The kind of the next row.
-fn kind_of(part: Part) -> u8
-    ensures { (t : List ℕ) → result ≡ kind_of (meaning t part) }
+// The kind of the next row, where it is of nodes or elements.
+pub(crate) fn kind_of(part: Part) -> Option<Kind>
+    ensures { (t : List ℕ) → row_number result ≡ kind_of (meaning t part) }
 {
     match part {
-        Part::Outside(_) => 3,
-        Part::BeforeFormat => 3,
-        Part::BehindFormat => 3,
-        Part::BeforeCount(_) => 3,
         Part::Within(nodes, n) => row_kind(nodes, n),
-        Part::Passing(_, _) => 3,
-        Part::Bad => 3,
+        _ => None,
     }
-}
-
-// The next row.
-fn next_row(t: &[u8], c: Cursor) -> Found
-    requires { c.at ≤ length t.now }
-    ensures { Reads 3 t.now c result }
-{
-    let from = c.at;
-    let part = c.part;
-    let at = row_at(t, from);
-    if at < t.len() {
-        let kind = kind_of(part);
-        let behind = step(t, at, part);
-        let end = row_after(t, at);
-        return Found {
-            kind,
-            at,
-            next: Cursor {
-                at: end,
-                part: behind,
-            },
-        };
-    }
-    Found {
-        kind: 0,
-        at,
-        next: Cursor { at, part },
-    }
-}
-
-// The next row of nodes or elements.
-pub fn next_item(t: &[u8], c: Cursor) -> Found
-    requires { c.at ≤ length t.now }
-    ensures { Reads 2 t.now c result }
-{
-    let mut f = next_row(t, c);
-    while f.kind == 3 {
-        let n = f.next;
-        f = next_row(t, n);
-    }
-    f
 }
 
 // Whether a row is a good one of its kind.
-fn is_item(t: &[u8], kind: u8, at: usize) -> bool
-    ensures { result ≡ cond (eqb kind 1) (node_b (line (drop at t.now))) (element_b (line (drop at t.now))) }
+fn is_item(t: &[u8], item: Item) -> bool
+    ensures { result ≡ cond (eqb (kind_number item.kind) 1) (node_b (line (drop item.at t.now))) (element_b (line (drop item.at t.now))) }
 {
-    if kind == 1 {
-        return is_node(from(t, at));
+    let row = from(t, item.at);
+    match item.kind {
+        Kind::Node => is_node(row),
+        Kind::Element => is_element(row),
     }
-    is_element(from(t, at))
 }
 
 // Whether a text may end here.
@@ -213,12 +169,7 @@ fn is_done(part: Part) -> bool
 {
     match part {
         Part::Outside(seen) => seen,
-        Part::BeforeFormat => false,
-        Part::BehindFormat => false,
-        Part::BeforeCount(_) => false,
-        Part::Within(_, _) => false,
-        Part::Passing(_, _) => false,
-        Part::Bad => false,
+        _ => false,
     }
 }
 
@@ -226,23 +177,13 @@ fn is_done(part: Part) -> bool
 fn walks(t: &[u8]) -> bool
     ensures { result ≡ form_b (rows t.now) }
 {
-    let start = Cursor {
-        at: 0,
-        part: Part::Outside(false),
-    };
-    let mut f = next_item(t, start);
-    while f.kind != 0 {
-        let kind = f.kind;
-        let at = f.at;
-        let n = f.next;
-        if !is_item(t, kind, at) {
+    let mut left = Items::of(t);
+    while let Some(item) = left.next() {
+        if !is_item(t, item) {
             return false;
         }
-        f = next_item(t, n);
     }
-    let end = f.next;
-    let part = end.part;
-    is_done(part)
+    is_done(left.c.part)
 }
 
 // Whether a text is of the form, but for double numbers.

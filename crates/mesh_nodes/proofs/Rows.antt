@@ -18,11 +18,9 @@ use Rattle.mesh_text.specs.Tests.{whole_b, zero_b}
 use Rattle.mesh_text.proofs.Rows.{by-test}
 use Rattle.mesh_text.proofs.Grammar.{and_both}
 use Rattle.mesh_form.specs.declared.Cursor.{Cursor}
-use Rattle.mesh_form.specs.declared.Found.{Found}
 use Rattle.mesh_form.specs.Mesh.{Row, Repeats, here, later}
-use Rattle.mesh_form.specs.Walk.{items_from, node_rows, Reads}
+use Rattle.mesh_form.specs.Walk.{Found, items_from, node_rows, Reads}
 use Rattle.mesh_form.specs.Values.{word, id_of}
-use Rattle.mesh_form.proofs.Passes.{left, left-next}
 use Rattle.mesh_form.proofs.Said.{second_word, third-word}
 use Rattle.mesh_nodes.specs.Nodes.{flat_b, flats_b, row_of}
 use Rattle.mesh_nodes.proofs.Passes.{by_kind, nodes-node, nodes-element}
@@ -49,18 +47,18 @@ flat-of r r1 r2 r3 x y z a b c d e f =
     ∙ ap (λ w. whole_b (word r 1) && (whole_b (word r 2) && zero_b w)) (f ∙ ap first three ∙ fourth-word r)
 
 module _ (t : List ℕ) (c : Cursor) (f : Found) (a : Reads 2 t c f) (n : f.kind ≡ 0 → ⊥) where
-  pub flats-on : cond (eqb f.kind 1) (flat_b (line (drop f.at t))) true ≡ true → flats_b (node_rows (left t f)) ≡ flats_b (node_rows (items_from t f.next))
+  pub flats-on : cond (eqb f.kind 1) (flat_b (line (drop f.at t))) true ≡ true → flats_b (node_rows (items_from t c)) ≡ flats_b (node_rows (items_from t f.next))
   unfolding flats_b
   flats-on e =
-      by_kind t c f a (flats_b (node_rows (left t f)) ≡ flats_b (node_rows (items_from t f.next))) n
-      (λ k. ap flats_b (nodes-node t f k) ∙ ap (λ b. b && flats_b (node_rows (items_from t f.next))) (sym (ap (λ b. cond b (flat_b (line (drop f.at t))) true) (eq-eqb f.kind 1 k)) ∙ e))
-      (λ k. ap flats_b (nodes-element t f k))
+      by_kind t c f a (flats_b (node_rows (items_from t c)) ≡ flats_b (node_rows (items_from t f.next))) n
+      (λ k. ap flats_b (nodes-node t c f a k) ∙ ap (λ b. b && flats_b (node_rows (items_from t f.next))) (sym (ap (λ b. cond b (flat_b (line (drop f.at t))) true) (eq-eqb f.kind 1 k)) ∙ e))
+      (λ k. ap flats_b (nodes-element t c f a k))
 
-  pub flats-off : cond (eqb f.kind 1) (flat_b (line (drop f.at t))) true ≡ false → flats_b (node_rows (left t f)) ≡ false
+  pub flats-off : cond (eqb f.kind 1) (flat_b (line (drop f.at t))) true ≡ false → flats_b (node_rows (items_from t c)) ≡ false
   unfolding flats_b
   flats-off e =
-      by_kind t c f a (flats_b (node_rows (left t f)) ≡ false) n
-      (λ k. ap flats_b (nodes-node t f k) ∙ ap (λ b. b && flats_b (node_rows (items_from t f.next))) (sym (ap (λ b. cond b (flat_b (line (drop f.at t))) true) (eq-eqb f.kind 1 k)) ∙ e))
+      by_kind t c f a (flats_b (node_rows (items_from t c)) ≡ false) n
+      (λ k. ap flats_b (nodes-node t c f a k) ∙ ap (λ b. b && flats_b (node_rows (items_from t f.next))) (sym (ap (λ b. cond b (flat_b (line (drop f.at t))) true) (eq-eqb f.kind 1 k)) ∙ e))
       (λ k. absurd (true≢false (sym (ap (λ b. cond b (flat_b (line (drop f.at t))) true) (ne_eqb f.kind 1 (λ o. absurd (omega arith)))) ∙ e)))
 
 pub flats-none : flats_b [] ≡ true
@@ -73,19 +71,19 @@ unfolding row_of
 row-none n = refl
 
 module _ (t : List ℕ) (c : Cursor) (f : Found) (a : Reads 2 t c f) (z : f.kind ≡ 0 → ⊥) (n : ℕ) where
-  pub row_here : (eqb f.kind 1 && eqb (id_of (line (drop f.at t))) n) ≡ true → row_of n (node_rows (left t f)) ≡ line (drop f.at t)
+  pub row_here : (eqb f.kind 1 && eqb (id_of (line (drop f.at t))) n) ≡ true → row_of n (node_rows (items_from t c)) ≡ line (drop f.at t)
   unfolding row_of
   row_here e =
       let b = and_both (eqb f.kind 1) _ e in
-      ap (row_of n) (nodes-node t f (eqb-true f.kind 1 b.0))
+      ap (row_of n) (nodes-node t c f a (eqb-true f.kind 1 b.0))
       ∙ ap (λ x. cond x (line (drop f.at t)) (row_of n (node_rows (items_from t f.next)))) b.1
 
-  pub row_on : (eqb f.kind 1 && eqb (id_of (line (drop f.at t))) n) ≡ false → row_of n (node_rows (left t f)) ≡ row_of n (node_rows (items_from t f.next))
+  pub row_on : (eqb f.kind 1 && eqb (id_of (line (drop f.at t))) n) ≡ false → row_of n (node_rows (items_from t c)) ≡ row_of n (node_rows (items_from t f.next))
   unfolding row_of
   row_on e =
-      by_kind t c f a (row_of n (node_rows (left t f)) ≡ row_of n (node_rows (items_from t f.next))) z
-      (λ k. ap (row_of n) (nodes-node t f k) ∙ ap (λ x. cond x (line (drop f.at t)) (row_of n (node_rows (items_from t f.next)))) (sym (ap (λ x. x && eqb (id_of (line (drop f.at t))) n) (eq-eqb f.kind 1 k)) ∙ e))
-      (λ k. ap (row_of n) (nodes-element t f k))
+      by_kind t c f a (row_of n (node_rows (items_from t c)) ≡ row_of n (node_rows (items_from t f.next))) z
+      (λ k. ap (row_of n) (nodes-node t c f a k) ∙ ap (λ x. cond x (line (drop f.at t)) (row_of n (node_rows (items_from t f.next)))) (sym (ap (λ x. x && eqb (id_of (line (drop f.at t))) n) (eq-eqb f.kind 1 k)) ∙ e))
+      (λ k. ap (row_of n) (nodes-element t c f a k))
 
 -- a number of a row in the list
 mem-number : {r : Row} {rs : List Row} → Memᴰ r rs → Memᴰ (id_of r) (map id_of rs)
@@ -121,10 +119,9 @@ pub row_in : {r : Row} {rs qs : List Row} → rs ≡ r ∷ qs → Memᴰ r rs
 row_in e = rw e (mathlib.Core.List.Memᴰ.head refl)
 
 -- and so is each behind it
-pub rows_behind : (t : List ℕ) (c : Cursor) (f : Found) → Reads 2 t c f → (f.kind ≡ 0 → ⊥) → (g : Found) → Reads 2 t f.next g
-    → (r : Row) → Memᴰ r (node_rows (left t g)) → Memᴰ r (node_rows (left t f))
-rows_behind t c f a n g b r m =
-    let q : Memᴰ r (node_rows (items_from t f.next)) = subst (λ l. Memᴰ r (node_rows l)) (sym (left-next t g f.next b)) m in
-    by_kind t c f a (Memᴰ r (node_rows (left t f))) n
-    (λ k. subst (Memᴰ r) (sym (nodes-node t f k)) (mathlib.Core.List.Memᴰ.tail q))
-    (λ k. subst (Memᴰ r) (sym (nodes-element t f k)) q)
+pub rows_behind : (t : List ℕ) (c : Cursor) (f : Found) → Reads 2 t c f → (f.kind ≡ 0 → ⊥)
+    → (r : Row) → Memᴰ r (node_rows (items_from t f.next)) → Memᴰ r (node_rows (items_from t c))
+rows_behind t c f a n r m =
+    by_kind t c f a (Memᴰ r (node_rows (items_from t c))) n
+    (λ k. subst (Memᴰ r) (sym (nodes-node t c f a k)) (mathlib.Core.List.Memᴰ.tail m))
+    (λ k. subst (Memᴰ r) (sym (nodes-element t c f a k)) m)

@@ -2,35 +2,37 @@
 ghost use Rattle.std.specs.Prelude.{◌≡◌, ◌≤◌, length};
 
 use crate::table::insert;
+use mesh_form::items::Items;
 use mesh_form::values::{nine_at, size_of, type_at};
-use mesh_form::walk::next_item;
-use mesh_form::{Cursor, Part};
+use mesh_form::{Item, Kind};
 
-// The first of nine numbers.
-fn want_names(numbers: &mut [u64], have: usize, names: [u64; 9], size: usize) -> usize
-    requires { (have ≤ length numbers.old) × (size ≤ 9) }
+// Some numbers.
+fn want_names(numbers: &mut [u64], have: usize, names: &[u64]) -> usize
+    requires { have ≤ length numbers.old }
     ensures { (result ≤ length numbers.old) × (length numbers.new ≡ length numbers.old) }
 {
     let mut n = have;
-    let mut k: usize = 0;
-    while k < size {
-        n = insert(numbers, n, names[k]);
-        k += 1;
+    for name in names {
+        n = insert(numbers, n, *name);
     }
     n
 }
 
-// Those of the row of a kind at a place.
-fn want_row(t: &[u8], numbers: &mut [u64], have: usize, kind: u8, at: usize) -> usize
+// Those of a row, if it is of an element of ours.
+fn want_row(t: &[u8], numbers: &mut [u64], have: usize, item: Item) -> usize
     requires { have ≤ length numbers.old }
     ensures { (result ≤ length numbers.old) × (length numbers.new ≡ length numbers.old) }
 {
-    if kind != 2 {
-        return have;
+    match item.kind {
+        Kind::Node => have,
+        Kind::Element => match size_of(type_at(t, item.at)) {
+            Some(size) => {
+                let names = nine_at(t, item.at);
+                want_names(numbers, have, &names[..size])
+            }
+            None => have,
+        },
     }
-    let size = size_of(type_at(t, at));
-    let names = nine_at(t, at);
-    want_names(numbers, have, names, size)
 }
 
 // Those of a text, as many as there is room for; how many that are.
@@ -38,20 +40,11 @@ pub fn want(t: &[u8], numbers: &mut [u64]) -> usize
     ensures { (result ≤ length numbers.old) × (length numbers.new ≡ length numbers.old) }
 {
     let mut have: usize = 0;
-    let start = Cursor {
-        at: 0,
-        part: Part::Outside(false),
-    };
-    let mut f = next_item(t, start);
-    while f.kind != 0 {
-        let kind = f.kind;
-        let at = f.at;
-        let next = f.next;
-        have = want_row(t, numbers, have, kind, at);
+    for item in Items::of(t) {
+        have = want_row(t, numbers, have, item);
         if numbers.len() <= have {
             return have;
         }
-        f = next_item(t, next);
     }
     have
 }

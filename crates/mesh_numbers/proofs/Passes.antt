@@ -17,11 +17,10 @@ use lib.ListN.{length, get_or, take, drop}
 use lib.Seq.{take-suc}
 use Rattle.mesh_text.specs.Rows.{line}
 use Rattle.mesh_text.proofs.Rows.{by-test}
-use Rattle.mesh_form.specs.declared.Found.{Found}
+use Rattle.mesh_form.specs.declared.Cursor.{Cursor}
 use Rattle.mesh_form.specs.Mesh.{Row}
 use Rattle.mesh_form.specs.Values.{id_of, type_of, size_of_type, nine, wanted_of}
-use Rattle.mesh_form.specs.Walk.{Item, items_of, items_from, Reads}
-use Rattle.mesh_form.proofs.Passes.{left, left-next}
+use Rattle.mesh_form.specs.Walk.{Found, Item, items_of, items_from, Reads}
 use Rattle.mesh_numbers.specs.declared.Pass.{Pass}
 use Rattle.mesh_numbers.specs.Bits.{width}
 use Rattle.mesh_numbers.specs.Numbers.{gather, node_number, wanted_by}
@@ -180,28 +179,28 @@ marked-looks base fs l hs w r s a b =
     }
 
 -- ---- a row, and what is behind it
-module _ (t : List ℕ) (f h : Found) (c : Reads 2 t f.next h) where
+module _ (t : List ℕ) (c : Cursor) (f : Found) (a : Reads 2 t c f) where
   row : List Item
   row = items_of f.kind (line (drop f.at t))
 
-  gather-on : (g : Item → List ℕ) → gather g (left t f) ≡ gather g row ++ gather g (left t h)
-  unfolding row left
-  gather-on g = gather-app g row (items_from t f.next) ∙ ap (λ l. gather g row ++ gather g l) (left-next t h f.next c)
+  gather-on : (g : Item → List ℕ) → gather g (items_from t c) ≡ gather g row ++ gather g (items_from t f.next)
+  unfolding row
+  gather-on g = ap (gather g) a.rest_items ∙ gather-app g row (items_from t f.next)
 
   module _ (base lim : ℕ) (fs : List ℕ) (p r s : Pass) where
     pub marks-on : (hs js : List ℕ)
         → Marks base lim fs p (gather node_number (items_of f.kind (line (drop f.at t)))) r hs
-        → Marks base lim hs r (gather node_number (left t h)) s js
-        → Marks base lim fs p (gather node_number (left t f)) s js
+        → Marks base lim hs r (gather node_number (items_from t f.next)) s js
+        → Marks base lim fs p (gather node_number (items_from t c)) s js
     unfolding row
-    marks-on hs js a b =
+    marks-on hs js m k =
         subst (λ l. Marks base lim fs p l s js) (sym (gather-on node_number))
-        (marks-join base lim fs p (gather node_number row) (gather node_number (left t h)) r s hs js a b)
+        (marks-join base lim fs p (gather node_number row) (gather node_number (items_from t f.next)) r s hs js m k)
 
     pub looks_on : Looks base lim fs p (gather wanted_by (items_of f.kind (line (drop f.at t)))) r
-        → Looks base lim fs r (gather wanted_by (left t h)) s
-        → Looks base lim fs p (gather wanted_by (left t f)) s
+        → Looks base lim fs r (gather wanted_by (items_from t f.next)) s
+        → Looks base lim fs p (gather wanted_by (items_from t c)) s
     unfolding row
-    looks_on a b =
+    looks_on m k =
         subst (λ l. Looks base lim fs p l s) (sym (gather-on wanted_by))
-        (looks-join base lim fs p (gather wanted_by row) (gather wanted_by (left t h)) r s a b)
+        (looks-join base lim fs p (gather wanted_by row) (gather wanted_by (items_from t f.next)) r s m k)

@@ -1,9 +1,10 @@
 -- A window of numbers and the next one, of any width.
---   falls, big, none_below : facts on numbers
+--   big, none_below : facts on numbers
 --   above-le, above-ge, above-least : no number stands between the window and the least above it
 --   doubles-yes, doubles-none : a number that stands twice, and none in this window nor below it
 --   lacks-yes, lacks-none : a number that is not listed, and none in this window nor below it
 --   above-small, above_on : the next window is farther on
+--   swept-all      : what each window in which nothing is found carries on
 -- Assumes nothing.
 use mathlib.Core.Path.{◌≡◌, refl, sym, ap, ◌∙◌, subst}
 use mathlib.Core.Bool.{true, false, not, cond, true≢false}
@@ -18,14 +19,11 @@ use Rattle.mesh_text.proofs.Grammar.{and-of}
 use Rattle.mesh_numbers.specs.declared.Pass.{Pass}
 use Rattle.mesh_numbers.specs.Bits.{width, zeros}
 use Rattle.mesh_form.specs.Mesh.{RepeatsIn, here, later, Repeats}
-use Rattle.mesh_numbers.specs.Windows.{win_b, marks_all, above_b, Doubles, Lacks}
+use Rattle.mesh_numbers.specs.Windows.{win_b, marks_all, above_b, Doubles, Lacks, Swept, at_start, window}
 use Rattle.mesh_numbers.proofs.Bits.{zeros-width}
 use Rattle.mesh_numbers.proofs.Flags.{marks-all-width, dup-true, dup-false, Fresh, marked-all-is, marked-all-of, lacks-true, lacks-false, clear}
 
 -- ---- facts on numbers, with nothing else in reach
-pub falls : (a b : ℕ) → a < b → b ≤ 4294967296 → 4294967296 - b < 4294967296 - a
-falls a b h k = omega arith
-
 pub big : {n m b : ℕ} → n < m → m ≤ b → n < b
 big h k = omega arith
 
@@ -131,3 +129,10 @@ module _ (base w : ℕ) (l v : List ℕ) (p : Pass) (a : Lacks base (zeros w) l 
       inside f =
           ⊎_elim (λ z. absurd (true≢false (sym z ∙ clear base w n))) (λ m. m)
           (marked-all-is base (zeros w) l n (lacks-false base (marks_all base (zeros w) l) (sym a.found ∙ e) i (win-all n ∙ f)))
+
+-- ---- window by window
+pub swept-all : {Post : ℕ → Pass → Type 0} (P : ℕ → Type 0) → P 0
+    → ((b : ℕ) (p : Pass) → P b → Post b p → p.found ≡ false → P p.above)
+    → {b : ℕ} → Swept Post b → P b
+swept-all P z f at_start = z
+swept-all P z f (window {base} {p} s h e) = f base p (swept-all P z f s) h e

@@ -9,6 +9,7 @@
 --   Looks base lim fs p l r    == looking the numbers l up takes the pass p to r
 --   Doubles base fs l r        == what a pass over the numbers l with the flags fs finds
 --   Lacks base fs l w r        == what a pass over the numbers w finds, with the flags behind a pass over the numbers l
+--   Swept Post b              == passes find nothing in windows from 0 on, the last of which ends below b
 -- Definitions only.
 use Rattle.std.specs.Prelude.{◌≡◌, Bool, false, not, ◌&&◌, ◌||◌, cond, List, [], ◌∷◌, ℕ, ◌+◌, ◌-◌, min, ltb}
 use Rattle.mesh_numbers.specs.declared.Pass.{Pass}
@@ -62,3 +63,8 @@ pub record Lacks (base : ℕ) (fs l w : List ℕ) (r : Pass) : Type 0 where
 -- nothing found yet, and no number above
 abbrev pub start : Pass
 start = record { found = false; above = 4294967296 }
+
+-- windows from 0 on in which passes that answer as Post says find nothing, each from the least number above the one before
+pub data Swept (Post : ℕ → Pass → Type 0) : ℕ → Type 0 where
+  at_start : Swept Post 0
+  window : {base : ℕ} {p : Pass} → Swept Post base → Post base p → p.found ≡ false → Swept Post p.above

@@ -71,8 +71,5 @@ pub fn lesser(n: u64, lim: u64, above: u64) -> u64
     if n < lim {
         return above;
     }
-    if n < above {
-        return n;
-    }
-    above
+    above.min(n)
 }

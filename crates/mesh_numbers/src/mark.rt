@@ -1,30 +1,32 @@
 // One pass over a text that marks the numbers of its nodes that are in a window.
 ghost use Rattle.std.specs.Prelude.{◌+◌, ◌≤◌, length, drop};
 ghost use Rattle.mesh_text.specs.Rows.{line};
-ghost use Rattle.mesh_form.specs.Walk.{items_of};
+ghost use Rattle.mesh_form.specs.Walk.{items_of, kind_number};
 ghost use Rattle.mesh_numbers.specs.Bits.{width};
 ghost use Rattle.mesh_numbers.specs.Numbers.{gather, node_number, numbers};
 ghost use Rattle.mesh_numbers.specs.Windows.{start as start_of, Marks};
 
 use crate::Pass;
 use crate::flag::{lesser, mark_one};
+use mesh_form::items::Items;
 use mesh_form::values::number_at;
-use mesh_form::walk::next_item;
-use mesh_form::{Cursor, Part};
+use mesh_form::{Item, Kind};
 
-// Marks the number of the row at a place, if it is a row of nodes (kind 1).
-fn mark_row(t: &[u8], flags: &mut [u8], base: u64, lim: u64, p: Pass, kind: u8, at: usize) -> Pass
-    ensures { Marks base lim flags.old p (gather node_number (items_of kind (line (drop at t.now)))) result flags.new }
+// Marks the number of a row, if it is of a node.
+fn mark_row(t: &[u8], flags: &mut [u8], base: u64, lim: u64, p: Pass, item: Item) -> Pass
+    ensures { Marks base lim flags.old p (gather node_number (items_of (kind_number item.kind) (line (drop item.at t.now)))) result flags.new }
 {
-    if kind != 1 {
-        return p;
-    }
-    let n = number_at(t, at);
-    let again = mark_one(flags, base, n);
-    let above = lesser(n, lim, p.above);
-    Pass {
-        found: p.found | again,
-        above,
+    match item.kind {
+        Kind::Node => {
+            let n = number_at(t, item.at);
+            let again = mark_one(flags, base, n);
+            let above = lesser(n, lim, p.above);
+            Pass {
+                found: p.found | again,
+                above,
+            }
+        }
+        Kind::Element => p,
     }
 }
 
@@ -39,17 +41,8 @@ pub fn mark(t: &[u8], flags: &mut [u8], base: u64) -> Pass
         found: false,
         above: 4294967296,
     };
-    let start = Cursor {
-        at: 0,
-        part: Part::Outside(false),
-    };
-    let mut f = next_item(t, start);
-    while f.kind != 0 {
-        let kind = f.kind;
-        let at = f.at;
-        let next = f.next;
-        p = mark_row(t, flags, base, lim, p, kind, at);
-        f = next_item(t, next);
+    for item in Items::of(t) {
+        p = mark_row(t, flags, base, lim, p, item);
     }
     p
 }

@@ -9,7 +9,7 @@ use native.Mathlib.Numerals.{add-one}
 use native.Mathlib.Omega.{arith}
 use borrow.Author.Tests.{ltb-true, ltb-false}
 use lib.Dec.{ltb}
-use lib.ListN.{length, drop, get_or, drop_of_length-le}
+use lib.ListN.{length, drop, get_or}
 use lib.Seq.{drop-cons}
 use Rattle.text.specs.Writing.{reads_on, reads}
 use Rattle.mesh_text.proofs.Rows.{by-test}
@@ -36,7 +36,3 @@ reads-step m v i w h e =
     ∙ ap (λ l. min m (reads_on v l)) (drop-cons w i 0 h)
     ∙ ap (λ n. min m (reads_on (10 * v + (get_or w i 0 - 48)) (drop n w))) (sym (add-one i))
     ∙ sym (reads-clip m (10 * v + (get_or w i 0 - 48)) (drop (i + 1) w))
-
-pub reads_end : (m v i : ℕ) (w : List ℕ) → length w ≤ i → v ≤ m → min m (reads w) ≡ min m (reads_on v (drop i w)) → v ≡ min m (reads w)
-reads_end m v i w h k e =
-    let f = e ∙ ap (λ l. min m (reads_on v l)) (drop_of_length-le w h) in omega arith

@@ -36,14 +36,12 @@ fn is(class: Class, b: u8) -> bool
 pub fn run(t: &[u8], class: Class) -> usize
     ensures { (result ≡ length (run_of (in_class class) t.now)) × (result ≤ length t.now) }
 {
-    let mut i: usize = 0;
-    while i < t.len() {
-        if !is(class, t[i]) {
+    for (i, b) in t.iter().enumerate() {
+        if !is(class, *b) {
             return i;
         }
-        i += 1;
     }
-    i
+    t.len()
 }
 
 // That run.

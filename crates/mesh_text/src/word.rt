@@ -9,37 +9,24 @@ use crate::{Class, front, past, run};
 pub fn same(v: &[u8], w: &[u8]) -> bool
     ensures { result ≡ same_b v.now w.now }
 {
-    if v.len() != w.len() {
-        return false;
-    }
-    let mut i: usize = 0;
-    while i < v.len() {
-        if v[i] != w[i] {
-            return false;
-        }
-        i += 1;
-    }
-    true
+    v == w
 }
 
 // A word without its first byte.
 pub fn tail(w: &[u8]) -> &[u8]
     ensures { result.now ≡ drop 1 w.now }
 {
-    if w.len() == 0 {
-        return w;
+    match w.split_first() {
+        Some((_, behind)) => behind,
+        None => w,
     }
-    &w[1..]
 }
 
 // The value of a digit.
 fn digit(b: u8) -> u64
     ensures { (result ≡ b - 48) × (result < 256) }
 {
-    if b < 48 {
-        return 0;
-    }
-    (b - 48) as u64
+    u64::from(b.saturating_sub(48))
 }
 
 // The number that digits stand for, `most` where it is above that. Looks at every byte.
@@ -48,22 +35,10 @@ fn reads_to(w: &[u8], most: u64) -> u64
     ensures { result ≡ min most (reads w.now) }
 {
     let mut v: u64 = 0;
-    let mut i: usize = 0;
-    while i < w.len() {
-        v = clip(10 * v + digit(w[i]), most);
-        i += 1;
+    for b in w {
+        v = most.min(10 * v + digit(*b));
     }
     v
-}
-
-// The lesser of two numbers.
-fn clip(v: u64, most: u64) -> u64
-    ensures { result ≡ min most v }
-{
-    if v < most {
-        return v;
-    }
-    most
 }
 
 // Whether a word is digits.
@@ -75,6 +50,7 @@ pub fn is_digits(w: &[u8]) -> bool
 }
 
 // A whole number; 2^32 where it is none.
+// stays (1): `number_of` gives 2^32 to a word that is no number and to a number that is larger, and docs/GMSH.md's rules and the theorems read both so
 pub fn number(w: &[u8]) -> u64
     ensures { result ≡ number_of w.now }
 {
@@ -88,11 +64,11 @@ pub fn number(w: &[u8]) -> u64
 fn unsign(w: &[u8]) -> &[u8]
     ensures { result.now ≡ unsigned w.now }
 {
-    if w.len() == 0 {
+    let Some((b, behind)) = w.split_first() else {
         return w;
-    }
-    if (w[0] == 43) | (w[0] == 45) {
-        return tail(w);
+    };
+    if (*b == 43) | (*b == 45) {
+        return behind;
     }
     w
 }
@@ -108,26 +84,24 @@ pub fn is_tag(w: &[u8]) -> bool
 fn is_exponent(w: &[u8]) -> bool
     ensures { result ≡ exponent_b w.now }
 {
-    if w.len() == 0 {
+    let Some((e, behind)) = w.split_first() else {
         return true;
-    }
-    let e = (w[0] == 101) | (w[0] == 69);
-    let t = is_tag(tail(w));
-    e & t
+    };
+    let t = is_tag(behind);
+    ((*e == 101) | (*e == 69)) & t
 }
 
 // The same for what is behind a number's first d digits.
 fn is_mantissa(d: usize, r: &[u8]) -> bool
     ensures { result ≡ mantissa_b d r.now }
 {
-    if r.len() == 0 {
+    let Some((b, f)) = r.split_first() else {
         return 0 < d;
-    }
-    if r[0] != 46 {
+    };
+    if *b != 46 {
         let x = is_exponent(r);
         return (0 < d) & x;
     }
-    let f = tail(r);
     let n = run(f, Class::Digit);
     let x = is_exponent(past(f, Class::Digit));
     ((0 < d) | (0 < n)) & x
@@ -146,13 +120,11 @@ pub fn is_number(w: &[u8]) -> bool
 fn is_point(p: &[u8]) -> bool
     ensures { result ≡ point_b p.now }
 {
-    if p.len() == 0 {
+    let Some((b, z)) = p.split_first() else {
         return true;
-    }
-    let point = p[0] == 46;
-    let z = tail(p);
+    };
     let n = run(z, Class::Zero);
-    point & ((0 < z.len()) & (n == z.len()))
+    (*b == 46) & ((0 < z.len()) & (n == z.len()))
 }
 
 // Whether a word is a whole coordinate.
@@ -176,10 +148,7 @@ fn size(w: &[u8]) -> u64
 fn is_minus(w: &[u8]) -> bool
     ensures { result ≡ is_minus w.now }
 {
-    if w.len() == 0 {
-        return false;
-    }
-    w[0] == 45
+    w.starts_with(b"-")
 }
 
 // The whole number that a whole coordinate is, up to 2^32 - 1 in size and that where it is larger: every i32 as it is, and none else as one.

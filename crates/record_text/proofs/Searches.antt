@@ -19,9 +19,10 @@ use Rattle.mesh_text.specs.Rows.{first, rest, is_nil, lines, line, is_end}
 use Rattle.mesh_text.proofs.Rows.{parts-two}
 use Rattle.record_text.specs.declared.Test.{Test}
 use Rattle.record_text.specs.declared.Test.TheVariants.{Form, Whole}
+use Rattle.std.specs.Prelude.{Option, None, Some}
 use Rattle.record_text.specs.declared.Place.{Place}
 use Rattle.record_text.specs.Faults.{Spot, spot, Silent, Flawed, each_word, cut_line}
-use Rattle.record_text.specs.Finds.{none, Finds, code_of, FlawBy, LacksBy, words_by, last_by, lines_by}
+use Rattle.record_text.specs.Finds.{Finds, code_of, FlawBy, LacksBy, words_by, last_by, lines_by}
 
 -- ---- what is left of an order
 pub record Ahead (o p : Codes Spot) : Type 0 where
@@ -37,9 +38,9 @@ ahead_past n h = record { refused = λ a r. h.refused a (inr (n, r)); accepted =
 pub ahead-then : {o p : Codes Spot} (q : Codes Spot) → Accepted q → Ahead o (q then p) → Ahead o p
 ahead-then {o} {p} q n h = record { refused = λ a r. h.refused a (past-then q p a n r); accepted = λ a. h.accepted (accepted-then q p n a) }
 
-pub finds-ahead : {o p : Codes Spot} (c : ℕ) (r : Place) → Ahead o p → Finds p c r → Finds o c r
-finds-ahead c r h (inl f) = inl (h.accepted f.0, f.1)
-finds-ahead c r h (inr f) = inr (h.refused (spot c r.line r.word) f.0, f.1)
+pub finds-ahead : {o p : Codes Spot} (c : ℕ) (r : Option Place) → Ahead o p → Finds p c r → Finds o c r
+finds-ahead c None h f = h.accepted f
+finds-ahead c (Some r) h f = (h.refused (spot c r.line r.word) f.0, f.1)
 
 -- ---- the words of a line
 module _ {o : Codes Spot} (c n : ℕ) (F : ℕ → List ℕ → Type 0) (k : ℕ) where
@@ -62,23 +63,23 @@ module _ (n : ℕ) (ws : List (List ℕ)) where
   words-silent s c F k [] = tt
   words-silent s c F k (u ∷ us) = ((λ f. f.0 s), words-silent s c F (suc k) us)
 
-  pub silent-none : (x : Test) (r : Place) → Silent ws → r ≡ none → Finds (words_by x n ws) (code_of x) r
-  silent-none Form r s e = inl (((λ f. f.0 s), words-silent s 13 (FlawBy Form) 1 ws), e)
-  silent-none Whole r s e = inl (words-silent s 14 (FlawBy Whole) 1 ws, e)
+  pub silent-none : (x : Test) → Silent ws → Accepted (words_by x n ws)
+  silent-none Form s = ((λ f. f.0 s), words-silent s 13 (FlawBy Form) 1 ws)
+  silent-none Whole s = words-silent s 14 (FlawBy Whole) 1 ws
 
-  pub lacks-found : (x : Test) → ¬ Silent ws → LacksBy x ws → 0 < n → Finds (words_by x n ws) (code_of x) (record { line = n; word = 0 })
-  lacks-found Form s l h = inr (inl ((s, l), refl), (λ z. absurd (omega arith)))
+  pub lacks-found : (x : Test) → ¬ Silent ws → LacksBy x ws → 0 < n → Finds (words_by x n ws) (code_of x) (Some (record { line = n; word = 0 }))
+  lacks-found Form s l h = (inl ((s, l), refl), (λ z. absurd (omega arith)))
   lacks-found Whole s l h = absurd l
 
-  pub lacks-none : (x : Test) (r : Place) → ¬ LacksBy x ws → Finds (each_word (code_of x) n (Flawed (FlawBy x) ws) 1 ws) (code_of x) r
+  pub lacks-none : (x : Test) (r : Option Place) → ¬ LacksBy x ws → Finds (each_word (code_of x) n (Flawed (FlawBy x) ws) 1 ws) (code_of x) r
       → Finds (words_by x n ws) (code_of x) r
-  lacks-none Form r l (inl f) = inl (((λ q. l q.1), f.0), f.1)
-  lacks-none Form r l (inr f) = inr (inr ((λ q. l q.1), f.0), f.1)
+  lacks-none Form None l f = ((λ q. l q.1), f)
+  lacks-none Form (Some r) l f = (inr ((λ q. l q.1), f.0), f.1)
   lacks-none Whole r l f = f
 
 -- ---- behind the last line feed
-pub last-form : (n : ℕ) (l : List ℕ) → 0 < n → ¬ (l ≡ []) → Finds (cut_line n l) 13 (record { line = n; word = 0 })
-last-form n l h f = inr (inl (f, refl), (λ z. absurd (omega arith)))
+pub last-form : (n : ℕ) (l : List ℕ) → 0 < n → ¬ (l ≡ []) → Finds (cut_line n l) 13 (Some (record { line = n; word = 0 }))
+last-form n l h f = (inl (f, refl), (λ z. absurd (omega arith)))
 
 -- ---- from line to line
 module _ {o : Codes Spot} (x : Test) (n : ℕ) (u v : List ℕ) where
@@ -90,21 +91,19 @@ module _ {o : Codes Spot} (x : Test) (n : ℕ) (u v : List ℕ) where
       (subst (λ ls. Ahead o (lines_by x n ls)) (e ∙ ap (λ ls. first (lines u) ∷ ls) q) h)
 
   pub lines-here : (r : Place) → lines u ≡ first (lines u) ∷ lines v → Ahead o (lines_by x n (lines u))
-      → Finds (words_by x n (line u)) (code_of x) r → ¬ (r.line ≡ 0) → Finds o (code_of x) r
-  lines-here r e h (inl f) z = absurd (z (ap (λ p. p.line) f.1))
-  lines-here r e h (inr f) z =
-      inr ((more-lines e h).refused (spot (code_of x) r.line r.word) (refused-then (words_by x n (line u)) (lines_by x (suc n) (lines v)) _ f.0), z)
+      → Finds (words_by x n (line u)) (code_of x) (Some r) → Finds o (code_of x) (Some r)
+  lines-here r e h f =
+      ((more-lines e h).refused (spot (code_of x) r.line r.word) (refused-then (words_by x n (line u)) (lines_by x (suc n) (lines v)) _ f.0), f.1)
 
-  pub lines_next : (r : Place) → lines u ≡ first (lines u) ∷ lines v → Ahead o (lines_by x n (lines u))
-      → Finds (words_by x n (line u)) (code_of x) r → r.line ≡ 0 → Ahead o (lines_by x (suc n) (lines v))
-  lines_next r e h (inl f) z = ahead-then (words_by x n (line u)) f.0 (more-lines e h)
-  lines_next r e h (inr f) z = absurd (f.1 z)
+  pub lines_next : lines u ≡ first (lines u) ∷ lines v → Ahead o (lines_by x n (lines u))
+      → Accepted (words_by x n (line u)) → Ahead o (lines_by x (suc n) (lines v))
+  lines_next e h f = ahead-then (words_by x n (line u)) f (more-lines e h)
 
-pub lines_cut : {o : Codes Spot} (r : Place) (x : Test) (n : ℕ) (u : List ℕ) → lines u ≡ u ∷ [] → Ahead o (lines_by x n (lines u))
+pub lines_cut : {o : Codes Spot} (r : Option Place) (x : Test) (n : ℕ) (u : List ℕ) → lines u ≡ u ∷ [] → Ahead o (lines_by x n (lines u))
     → Finds (last_by x n u) (code_of x) r → Finds o (code_of x) r
 lines_cut {o} r x n u e h f = finds-ahead (code_of x) r (subst (λ ls. Ahead o (lines_by x n ls)) e h) f
 
-pub lines-over : {o : Codes Spot} (r : Place) (x : Test) (n : ℕ) (u : List ℕ) → u ≡ [] → Ahead o (lines_by x n (lines u)) → r ≡ none → Finds o (code_of x) r
+pub lines-over : {o : Codes Spot} (x : Test) (n : ℕ) (u : List ℕ) → u ≡ [] → Ahead o (lines_by x n (lines u)) → Accepted o
 unfolding lines
-lines-over {o} r Form n u e h z = inl ((subst (λ l. Ahead o (lines_by Form n (lines l))) e h).accepted ((λ f. f refl), tt), z)
-lines-over {o} r Whole n u e h z = inl ((subst (λ l. Ahead o (lines_by Whole n (lines l))) e h).accepted tt, z)
+lines-over {o} Form n u e h = (subst (λ l. Ahead o (lines_by Form n (lines l))) e h).accepted ((λ f. f refl), tt)
+lines-over {o} Whole n u e h = (subst (λ l. Ahead o (lines_by Whole n (lines l))) e h).accepted tt

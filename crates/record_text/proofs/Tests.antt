@@ -1,16 +1,18 @@
 -- What the tests of words and lines say.
 --   wrong-front, wrong-later, broken-front, broken-later : a word, by its place in the line
---   silent-none, silent-bare, silent-first : a line without a word; one by its first word
+--   silent-none, silent-first : a line without a word; one by its first word
 --   few-is         : a line with fewer than three words has none behind two
 -- Assumes nothing.
-use mathlib.Core.Path.{◌≡◌, refl, sym, ap, ◌∙◌}
+use mathlib.Core.Path.{◌≡◌, refl, sym, ap, ◌∙◌, subst}
 use mathlib.Core.Bool.{true, false, not, ◌&&◌, true≢false}
 use mathlib.Core.List.{List, [], ◌∷◌}
 use Prim.Native.Nat.{ℕ, ◌≤◌, ◌<◌}
 use native.Mathlib.Omega.{arith}
-use borrow.Author.Tests.{ltb-true, ltb-false, eqb-true, eqb-false, not-true, not-false}
+use borrow.Author.Tests.{ltb-true, ltb-false, eqb-true, eq-eqb, not-true, not-false}
 use lib.Dec.{eqb, ltb}
 use lib.ListN.{length, get_or}
+use Rattle.std.specs.Prelude.{nat_eq}
+use Rattle.std.specs.List.{starts_with}
 use Rattle.mesh_text.specs.Rows.{first, rest, is_nil}
 use Rattle.mesh_text.specs.Words.{IsNumber}
 use Rattle.mesh_text.specs.Tests.{number_b, whole_b, number_of}
@@ -65,15 +67,14 @@ silent-head : {ws : List (List ℕ)} → Silent ws → is_nil ws ≡ false → (
 silent-head empty e = absurd (true≢false e)
 silent-head comment e = (omega arith, refl)
 
-pub silent-bare : (ws : List (List ℕ)) → is_nil ws ≡ false → length (first ws) ≡ 0 → Whether (Silent ws) false
-silent-bare ws e h =
-    record { yes = λ z. absurd (true≢false (sym z)); no = λ z s. let q = silent-head s e in absurd (omega (arith, q.0, h)) }
-
-pub silent-first : (ws : List (List ℕ)) → is_nil ws ≡ false → ¬ (length (first ws) ≡ 0) → Whether (Silent ws) (eqb (get_or (first ws) 0 0) 35)
-silent-first [] e h = absurd (true≢false e)
-silent-first ([] ∷ ws) e h = absurd (h refl)
-silent-first ((b ∷ w) ∷ ws) e h =
-    record { yes = λ z. rw (eqb-true b 35 z) comment; no = λ z s. eqb-false b 35 z (silent-head s e).1 }
+pub silent-first : (ws : List (List ℕ)) → is_nil ws ≡ false → Whether (Silent ws) (starts_with nat_eq (first ws) (35 ∷ []))
+silent-first [] e = absurd (true≢false e)
+silent-first ([] ∷ ws) e = record { yes = λ z. absurd (true≢false (sym z)); no = λ z s. let q = silent-head s refl in absurd (omega (arith, q.0)) }
+silent-first ((b ∷ w) ∷ ws) e =
+    record {
+      yes = λ z. subst (λ x. Silent ((x ∷ w) ∷ ws)) (eqb-true 35 b (and_both (eqb 35 b) true z).0) comment;
+      no = λ z s. true≢false (sym (ap (λ x. x && true) (eq-eqb 35 b (sym (silent-head s e).1))) ∙ z);
+    }
 
 pub few-is : (ws : List (List ℕ)) → Whether (length ws < 3) (is_nil (rest (rest ws)))
 few-is [] = record { yes = λ z. omega arith; no = λ z. absurd (true≢false z) }

@@ -1,14 +1,13 @@
 -- What the search for a fault of a text answers: one search for both codes.
 --   Whether P r      == r says whether P
---   none             == the place of a fault where there is none
---   Finds o c r      == r has line and word of the fault of o that counts, which is of code c; `none` where o has none
+--   Finds o c r      == r has line and word of the fault of o that counts, which is of code c; None where o has none
 --   code_of x         == 13 where the form is looked at, 14 where coordinates are
 --   FlawBy x, LacksBy x == the fault of a word; that of a line which is too short
 --   words_by x, last_by x, codes_by x == the orders of a line, of what is behind the last line feed, of the whole text
 --   lines_by x n ls   == those of the lines ls, the first of them the n-th
 --   LineEnd t at r   == r is the place of the line feed of the line at the place `at`, or the text's length where it has none
 -- Definitions only.
-use Rattle.std.specs.Prelude.{◌≡◌, Bool, true, false, List, [], ◌∷◌, ◌⊎◌, ℕ, suc, ◌≤◌, ◌<◌, length, drop}
+use Rattle.std.specs.Prelude.{◌≡◌, Bool, true, false, List, [], ◌∷◌, ℕ, suc, ◌≤◌, ◌<◌, length, drop, Option, None, Some}
 use Rattle.element.specs.Refusals.{Codes, Refused, Accepted}
 use Rattle.mesh_text.specs.Rows.{lines, first}
 use Rattle.record_text.specs.declared.Test.{Test}
@@ -20,11 +19,9 @@ pub record Whether (P : Type 0) (r : Bool) : Type 0 where
   pub yes : r ≡ true → P
   pub no : r ≡ false → ¬ P
 
-abbrev pub none : Place
-none = record { line = 0; word = 0 }
-
-abbrev pub Finds : Codes Spot → ℕ → Place → Type 0
-Finds o c r = (Accepted o × (r ≡ none)) ⊎ (Refused o (spot c r.line r.word) × ¬ (r.line ≡ 0))
+abbrev pub Finds : Codes Spot → ℕ → Option Place → Type 0
+Finds o c None = Accepted o
+Finds o c (Some p) = Refused o (spot c p.line p.word) × ¬ (p.line ≡ 0)
 
 -- ---- by what is looked for
 abbrev pub code_of : Test → ℕ

@@ -2,19 +2,12 @@
 ghost use Rattle.std.specs.Prelude.{◌≡◌, List, [], ℕ, ◌≤◌, ◌<◌, length, drop};
 ghost use Rattle.mesh_text.specs.Rows.{line};
 ghost use Rattle.record_text.specs.Faults.{Silent, Wrong, Broken, Flawed, each_word};
-ghost use Rattle.record_text.specs.Finds.{Whether, none as noPlace, Finds, code_of, FlawBy, LacksBy, words_by, last_by, codes_by};
+ghost use Rattle.record_text.specs.Finds.{Whether, Finds, code_of, FlawBy, LacksBy, words_by, last_by, codes_by};
 
 use crate::lines::{few, line_end, silent};
 use crate::{Place, Test};
 use mesh_text::row::{first, from, over, word_after};
 use mesh_text::word::{is_number, is_whole, number};
-
-// The place of no fault.
-fn none() -> Place
-    ensures { result ≡ noPlace }
-{
-    Place { line: 0, word: 0 }
-}
 
 // Whether the k-th word of a line breaks the form.
 fn wrong(k: u64, w: &[u8]) -> bool
@@ -49,7 +42,7 @@ fn flawed(test: Test, k: u64, w: &[u8]) -> bool
 }
 
 // The first such word of the n-th line, which stands at a place and counts.
-fn in_words(test: Test, t: &[u8], at: usize, n: u64) -> Place
+fn in_words(test: Test, t: &[u8], at: usize, n: u64) -> Option<Place>
     requires inside { at ≤ length t.now }
     requires counts { ¬ Silent (line (drop at t.now)) }
     requires numbered { 0 < n }
@@ -59,15 +52,15 @@ fn in_words(test: Test, t: &[u8], at: usize, n: u64) -> Place
     let mut k: u64 = 1;
     while p < t.len() {
         if over(from(t, p)) {
-            return none();
+            return None;
         }
         if flawed(test, k, first(from(t, p))) {
-            return Place { line: n, word: k };
+            return Some(Place { line: n, word: k });
         }
         p = word_after(t, p);
         k += 1;
     }
-    none()
+    None
 }
 
 // Whether a line at a place, which counts, lacks a word that it must have.
@@ -81,33 +74,33 @@ fn lacks(test: Test, t: &[u8], at: usize) -> bool
 }
 
 // The first fault of the n-th line, which stands at a place.
-fn in_line(test: Test, t: &[u8], at: usize, n: u64) -> Place
+fn in_line(test: Test, t: &[u8], at: usize, n: u64) -> Option<Place>
     requires inside { at ≤ length t.now }
     requires numbered { 0 < n }
     ensures { Finds (words_by test n (line (drop at t.now))) (code_of test) result }
 {
     if silent(t, at) {
-        return none();
+        return None;
     }
     if lacks(test, t, at) {
-        return Place { line: n, word: 0 };
+        return Some(Place { line: n, word: 0 });
     }
     in_words(test, t, at, n)
 }
 
 // The fault of bytes that stand behind the last line feed, in the n-th line.
-fn in_last(test: Test, n: u64) -> Place
+fn in_last(test: Test, n: u64) -> Option<Place>
     requires { 0 < n }
     ensures { (l : List ℕ) → ¬ (l ≡ []) → Finds (last_by test n l) (code_of test) result }
 {
     match test {
-        Test::Form => Place { line: n, word: 0 },
-        Test::Whole => none(),
+        Test::Form => Some(Place { line: n, word: 0 }),
+        Test::Whole => None,
     }
 }
 
 // The first fault of a text.
-pub fn fault(test: Test, t: &[u8]) -> Place
+pub fn fault(test: Test, t: &[u8]) -> Option<Place>
     ensures { Finds (codes_by test t.now) (code_of test) result }
 {
     let mut at = 0;
@@ -117,12 +110,11 @@ pub fn fault(test: Test, t: &[u8]) -> Place
         if end == t.len() {
             return in_last(test, n);
         }
-        let f = in_line(test, t, at, n);
-        if f.line != 0 {
-            return f;
+        if let Some(place) = in_line(test, t, at, n) {
+            return Some(place);
         }
         at = end + 1;
         n += 1;
     }
-    none()
+    None
 }

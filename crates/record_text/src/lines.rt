@@ -24,11 +24,7 @@ pub fn silent(t: &[u8], at: usize) -> bool
     if over(l) {
         return true;
     }
-    let w = first(l);
-    if w.len() == 0 {
-        return false;
-    }
-    w[0] == 35
+    first(l).starts_with(b"#")
 }
 
 // Whether the line at a place has fewer than three words.

@@ -10,6 +10,6 @@ returns c =
     let a = c.args in let v = a.coords.now in let zs = c.narrowed-zs.result in
     let e = narrowed-length a.kind v zs c.narrowed-zs.ensures c.requires.short in
     let st = narrowed-stands a.kind v zs c.narrowed-zs.ensures c.requires.short in
-    same-moves (stands-codes a.s.low a.s.count a.s.room a.id a.kind a.limit e st) refl
+    same-moves 0 a.s a.out.now _ c.take_held.result (stands-codes a.s.low a.s.count a.s.room a.id a.kind a.limit e st) refl
     (λ k. ap (new_record a.id a.kind a.limit) (stands-coords a.s.low a.s.count a.s.room a.id a.kind a.limit e st k))
     c.take_held.ensures

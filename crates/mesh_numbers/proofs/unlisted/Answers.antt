@@ -1,31 +1,23 @@
--- `mesh_numbers::unlisted` meets its contract: the loop keeps that every number below the window that is wanted is listed. Assumes nothing.
-use mathlib.Core.Bool.{true≢false}
+-- `mesh_numbers::unlisted` meets its contract: window by window, every number below that is wanted is listed. Assumes nothing.
+use mathlib.Core.List.{Memᴰ}
+use Prim.Native.Nat.{ℕ, ◌<◌}
 use lib.Dec.{lit<}
 use Rattle.mesh_numbers.specs.Numbers.{numbers, wanted}
-use Rattle.mesh_numbers.proofs.Windows.{falls, above-small, above_on, lacks-yes, lacks-none}
+use Rattle.mesh_numbers.proofs.Windows.{big, none_below, above-small, above_on, lacks-yes, lacks-none, swept-all}
 use Rattle.mesh_numbers.proofs.unlisted.Goals as goal
 
-pub returns-then-p : goal.returns-then-p
-returns-then-p c =
-    let t = c.args.t.now in
+pub in_a_window-requires-clause-onwards : goal.in_a_window-requires-clause-onwards
+in_a_window-requires-clause-onwards c = λ base p h e.
+    let w = wanted c.args.t.now in
+    (above_on base 1048576 w p e.above (lit< tt) h, above-small base 1048576 w p e.above)
+
+pub returns : goal.returns
+returns c =
+    let l = numbers c.args.t.now in
+    let w = wanted c.args.t.now in
     record {
-      yes = λ e. lacks-yes c.loop-base.base 1048576 (numbers t) (wanted t) c.unlisted_from-p.result c.unlisted_from-p.ensures c.if-p.true;
-      no = λ e. absurd (true≢false e);
+      yes = λ e. let y = c.in_a_window.ensures.yes e in lacks-yes y.0 1048576 l w y.1.0 y.1.1.0 y.1.1.1;
+      no = λ e n i k. let s = c.in_a_window.ensures.no e in
+          swept-all (λ b. (m : ℕ) → Memᴰ m w → m < b → Memᴰ m l) (λ m j h. absurd (none_below h)) (λ b p h d f. lacks-none b 1048576 l w p d f h) s.1.1
+          n i (big k s.1.0);
     }
-
-pub loop-base-smaller : goal.loop-base-smaller
-loop-base-smaller c =
-    let l = c.loop-base in
-    let t = c.args.t.now in
-    let p = c.unlisted_from-p in
-    falls _ _ (above_on l.base 1048576 (wanted t) p.result p.ensures.above (lit< tt) c.loop-base-test.true)
-    (above-small l.base 1048576 (wanted t) p.result p.ensures.above)
-
-pub loop-base-preserved : goal.loop-base-preserved
-loop-base-preserved c =
-    let l = c.loop-base in
-    let t = c.args.t.now in
-    let p = c.unlisted_from-p in (
-      above-small l.base 1048576 (wanted t) p.result p.ensures.above,
-      lacks-none l.base 1048576 (numbers t) (wanted t) p.result p.ensures c.if-p.false l.invariant.1,
-    )

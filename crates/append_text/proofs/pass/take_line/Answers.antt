@@ -5,7 +5,7 @@ use Rattle.append_text.proofs.Gathers.{line-silent, line_taken}
 use Rattle.append_text.proofs.pass.take_line.Goals as goal
 
 pub returns-then-silent : goal.returns-then-silent
-returns-then-silent c = line-silent (line (drop c.args.at c.args.t.now)) c.args.s c.args.out.now (c.silent.ensures.yes c.if-silent.true) c.requires.clean
+returns-then-silent c = line-silent (line (drop c.args.at c.args.t.now)) c.args.s c.args.out.now (c.silent.ensures.yes c.if-silent.true)
 
 pub returns : goal.returns
 returns c =

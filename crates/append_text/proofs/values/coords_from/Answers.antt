@@ -19,8 +19,8 @@ returns-then-over c =
     let a = c.args in
     let ws = line (drop a.at a.t.now) in
     let e : is_nil (drop l.i ws) ≡ true =
-    ap is_nil (sym l.invariant.4) ∙ sym (c.over.ensures ∙ ap (λ u. is_nil (line u)) c.from.ensures) ∙ c.if-over.true in
-    record { within = l.invariant.0; read = l.invariant.3 ∙ read-over (clipped 4294967295) l.i (length a.xs.now) ws e l.invariant.0 }
+    ap is_nil (sym l.invariant.3) ∙ sym (c.over.ensures ∙ ap (λ u. is_nil (line u)) c.from.ensures) ∙ c.if-over.true in
+    record { within = (omega arith); read = l.invariant.2 ∙ read-over (clipped 4294967295) l.i (length a.xs.now) ws e (omega arith) }
 
 pub loop-i-preserved : goal.loop-i-preserved
 loop-i-preserved c =
@@ -28,14 +28,13 @@ loop-i-preserved c =
     let a = c.args in
     let ws = line (drop a.at a.t.now) in
     let e : is_nil (drop l.i ws) ≡ false =
-    ap is_nil (sym l.invariant.4) ∙ sym (c.over.ensures ∙ ap (λ u. is_nil (line u)) c.from.ensures) ∙ c.if-over.false in
+    ap is_nil (sym l.invariant.3) ∙ sym (c.over.ensures ∙ ap (λ u. is_nil (line u)) c.from.ensures) ∙ c.if-over.false in
     let v : to_z w64 (of_z w64 c.value.result) ≡ clipped 4294967295 (first (drop l.i ws)) =
     to_z-of_z {w = w64} (search rules)
     ∙ c.value.ensures
-    ∙ ap (clipped 4294967295) (c.first.ensures ∙ ap (λ u. first (line u)) c.from-in-loop-i.ensures ∙ ap first l.invariant.4) in (
-      omega (arith, l.invariant.2),
+    ∙ ap (clipped 4294967295) (c.first.ensures ∙ ap (λ u. first (line u)) c.from-in-loop-i.ensures ∙ ap first l.invariant.3) in (
       c.word_after-p.ensures.within,
-      length-set l.xs l.i _ ∙ l.invariant.2,
-      rw (add-one l.i) (rw v (read_next (clipped 4294967295) l.i ws l.xs (omega (arith, l.invariant.2)) e l.invariant.3)),
-      c.word_after-p.ensures.same ∙ ap rest l.invariant.4 ∙ sym (drop-next l.i ws) ∙ ap (λ n. drop n ws) (sym (add-one l.i)),
+      length-set l.xs l.i _ ∙ l.invariant.1,
+      rw (add-one l.i) (rw v (read_next (clipped 4294967295) l.i ws l.xs (omega (arith, l.invariant.1)) e l.invariant.2)),
+      c.word_after-p.ensures.same ∙ ap rest l.invariant.3 ∙ sym (drop-next l.i ws) ∙ ap (λ n. drop n ws) (sym (add-one l.i)),
     )

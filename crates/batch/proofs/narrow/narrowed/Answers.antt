@@ -21,7 +21,7 @@ returns c =
     let v = c.args.xs.now in
     let n : c.loop-k.k ≡ length v = omega arith in
     record {
-      long = c.loop-k.invariant.1.long;
-      same = λ _. subst (λ m. take m c.loop-k.zs ≡ list_to m (at v)) n c.loop-k.invariant.1.front ∙ list-is v;
+      long = c.loop-k.invariant.long;
+      same = λ _. subst (λ m. take m c.loop-k.zs ≡ list_to m (at v)) n c.loop-k.invariant.front ∙ list-is v;
       far = λ u. absurd (t.ensures.yes c.if-not-all_held.false u);
     }

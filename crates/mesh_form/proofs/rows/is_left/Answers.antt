@@ -7,10 +7,20 @@ use Rattle.mesh_text.specs.Rows.{line, first, rest, is_nil}
 use lib.ListN.{drop, drop_of_length-le}
 use lib.Dec.{eqb}
 use native.Mathlib.Omega.{arith}
-use Prim.Native.Nat.{ℕ, ◌+◌}
-use mathlib.Core.Bool.{true, false, cond, ◌&&◌}
-use mathlib.Core.Path.{◌≡◌, sym, ap, ◌∙◌}
+use Prim.Native.Nat.{ℕ, ◌+◌, ◌≤◌}
+use mir.Val.{bool_byte}
+use mathlib.Core.Bool.{Bool, true, false, cond, ◌&&◌}
+use mathlib.Core.Path.{◌≡◌, refl, sym, ap, ◌∙◌}
 use Rattle.mesh_form.proofs.rows.is_left.Goals as goal
+
+-- 1 for true, else 0
+byte_is : (b : Bool) → bool_byte b ≡ cond {A = ℕ} b 1 0
+byte_is true = refl
+byte_is false = refl
+
+byte-small : (b : Bool) → bool_byte b ≤ 1
+byte-small true = omega arith
+byte-small false = omega arith
 
 pub returns-then-over : goal.returns-then-over
 returns-then-over c =
@@ -40,12 +50,12 @@ loop-at-preserved c =
     ap (λ x. word_b l.left (first (line x))) (sym c.from-r.ensures) ∙ ap (word_b l.left) (sym c.first.ensures) ∙ sym c.is_good.ensures in
     let on = c.word_after-at.ensures.onwards some in (
       c.word_after-at.ensures.within,
-      omega (arith, c.none-n.ensures.1),
+      omega (arith, c.from-n.ensures, byte-small (eqb l.left 0)),
       l.invariant.2
           ∙ left-on l.left l.n a.kind ws some (word-is ∙ c.if-not-is_good.false)
-          ∙ ap (λ x. left_b x (l.n + cond (eqb l.left 0) 1 0) a.kind (rest ws)) (sym c.lower-left.ensures)
-          ∙ ap (λ x. left_b c.lower-left.result (l.n + x) a.kind (rest ws)) (sym c.none-n.ensures.0)
-          ∙ ap (left_b c.lower-left.result (l.n + c.none-n.result) a.kind) (sym c.word_after-at.ensures.same),
+          ∙ ap (λ x. left_b x (l.n + cond (eqb l.left 0) 1 0) a.kind (rest ws)) (sym c.saturating_sub-left.ensures)
+          ∙ ap (λ x. left_b c.saturating_sub-left.result (l.n + x) a.kind (rest ws)) (sym (c.from-n.ensures ∙ byte_is (eqb l.left 0)))
+          ∙ ap (left_b c.saturating_sub-left.result (l.n + c.from-n.result) a.kind) (sym c.word_after-at.ensures.same),
     )
 
 pub returns : goal.returns

@@ -7,23 +7,22 @@ use Rattle.mesh_text.specs.Tests.{number_of}
 use Rattle.mesh_form.proofs.Said.{padded, padded-is, padded-step, padded-end}
 use Rattle.mesh_form.proofs.values.nine_from.Goals as goal
 
-pub loop-i-preserved : goal.loop-i-preserved
-loop-i-preserved c =
-    let l = c.loop-i in
+pub loop-n-preserved : goal.loop-n-preserved
+loop-n-preserved c =
+    let l = c.loop-n in
     let a = c.args in (
-      omega arith,
-      length-set l.ns l.i c.number.result ∙ l.invariant.1,
+      length-set l.n-items l.n-index _ ∙ l.invariant.0,
       c.word_after-p.ensures.within,
-      padded-step 9 l.i l.ns (padded 9 (line (drop a.at a.t.now))) (line (drop l.p a.t.now)) l.invariant.3
-          c.number.result (line (drop c.word_after-p.result a.t.now))
-          (omega arith) l.invariant.1
+      padded-step 9 l.n-index l.n-items (padded 9 (line (drop a.at a.t.now))) (line (drop l.p a.t.now)) l.invariant.2
+          _ (line (drop c.word_after-p.result a.t.now))
+          (omega arith) l.invariant.0
           (c.number.ensures ∙ ap number_of c.first.ensures ∙ ap (λ x. number_of (first (line x))) c.from.ensures)
           c.word_after-p.ensures.same,
     )
 
 pub returns : goal.returns
 returns c =
-    let l = c.loop-i in
+    let l = c.loop-n in
     let a = c.args in
-    padded-end 9 l.i l.ns (padded 9 (line (drop a.at a.t.now))) (line (drop l.p a.t.now)) l.invariant.3 (omega arith) l.invariant.1
+    padded-end 9 l.n-index l.n-items (padded 9 (line (drop a.at a.t.now))) (line (drop l.p a.t.now)) l.invariant.2 (omega arith) l.invariant.0
     ∙ padded-is 9 9 (line (drop a.at a.t.now)) (omega arith)

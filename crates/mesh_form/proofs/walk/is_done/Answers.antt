@@ -1,32 +1,26 @@
--- `mesh_form::walk::is_done` meets its contract, part by part.
+-- `mesh_form::walk::is_done` meets its contract: a text may end outside of sections alone.
+use mathlib.Core.Path.{◌≡◌, refl, sym, ap}
+use mathlib.Core.Bool.{Bool, false}
+use mathlib.Core.List.{List}
+use Prim.Native.Nat.{ℕ}
+use Rattle.mesh_form.specs.declared.Part.{Part}
+use Rattle.mesh_form.specs.declared.Part.TheVariants.{Outside, BeforeFormat, BehindFormat, BeforeCount, Within, Passing, Bad}
 use Rattle.mesh_form.specs.Walk.{done_b, meaning}
-use mathlib.Core.Path.{sym, ap}
 use Rattle.mesh_form.proofs.walk.is_done.Goals as goal
+
+done_not : (t : List ℕ) (p : Part) → ((s : Bool) → p ≡ Outside s → ⊥) → false ≡ done_b (meaning t p)
+unfolding done_b meaning
+done_not t (Outside s) h = absurd (h s refl)
+done_not t BeforeFormat h = refl
+done_not t BehindFormat h = refl
+done_not t (BeforeCount k) h = refl
+done_not t (Within k n) h = refl
+done_not t (Passing s p) h = refl
+done_not t Bad h = refl
 
 pub returns-in-Outside : goal.returns-in-Outside
 unfolding done_b meaning
 returns-in-Outside c = λ t. sym (ap (λ p. done_b (meaning t p)) c.in-Outside.is)
 
-pub returns-in-BeforeFormat : goal.returns-in-BeforeFormat
-unfolding done_b meaning
-returns-in-BeforeFormat c = λ t. sym (ap (λ p. done_b (meaning t p)) c.in-BeforeFormat.is)
-
-pub returns-in-BehindFormat : goal.returns-in-BehindFormat
-unfolding done_b meaning
-returns-in-BehindFormat c = λ t. sym (ap (λ p. done_b (meaning t p)) c.in-BehindFormat.is)
-
-pub returns-in-BeforeCount : goal.returns-in-BeforeCount
-unfolding done_b meaning
-returns-in-BeforeCount c = λ t. sym (ap (λ p. done_b (meaning t p)) c.in-BeforeCount.is)
-
-pub returns-in-Within : goal.returns-in-Within
-unfolding done_b meaning
-returns-in-Within c = λ t. sym (ap (λ p. done_b (meaning t p)) c.in-Within.is)
-
-pub returns-in-Passing : goal.returns-in-Passing
-unfolding done_b meaning
-returns-in-Passing c = λ t. sym (ap (λ p. done_b (meaning t p)) c.in-Passing.is)
-
-pub returns-in-Bad : goal.returns-in-Bad
-unfolding done_b meaning
-returns-in-Bad c = λ t. sym (ap (λ p. done_b (meaning t p)) c.in-Bad.is)
+pub returns-in_default : goal.returns-in_default
+returns-in_default c = λ t. done_not t c.args.part c.in_default.not-Outside

@@ -1,7 +1,13 @@
 -- `mesh_nodes::want::want_row` meets its contract.
-use native.Mathlib.Omega.{arith}
-use Rattle.mesh_form.proofs.Said.{size_small}
+use mathlib.Core.Path.{sym}
+use Prim.Native.Nat.{ℕ}
+use Rattle.std.proofs.lemmas.List.{length-take-le}
+use Rattle.mesh_form.proofs.Said.{nine-enough}
 use Rattle.mesh_nodes.proofs.want.want_row.Goals as goal
 
-pub want_names-requires : goal.want_names-requires
-want_names-requires c = (omega arith, omega (arith, c.size_of-size.ensures, size_small c.type_at.result))
+pub slice_bounds-names-end : goal.slice_bounds-names-end
+slice_bounds-names-end c = nine-enough _ _ _ _ c.in-Some.ensures.size c.nine_at-names.ensures
+
+pub slice_bounds-want_names-end : goal.slice_bounds-want_names-end
+slice_bounds-want_names-end c =
+    sym (length-take-le {A = ℕ} c.in-Some.size c.nine_at-names.result (nine-enough _ _ _ _ c.in-Some.ensures.size c.nine_at-names.ensures))

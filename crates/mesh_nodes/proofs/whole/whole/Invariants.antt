@@ -1,15 +1,9 @@
 -- `mesh_nodes::whole::whole` meets its contract: the loop keeps that the rows left give the answer.
 use mathlib.Core.Path.{◌≡◌}
-use Prim.Native.Nat.{◌+◌, ◌*◌, ◌-◌}
-use lib.ListN.{length}
-use Rattle.mesh_form.specs.declared.Cursor.{Cursor}
-use Rattle.mesh_form.specs.Walk.{Reads, node_rows}
-use Rattle.mesh_form.proofs.Passes.{left}
+use Rattle.mesh_form.specs.Walk.{items_from, items_in, node_rows}
 use Rattle.mesh_nodes.specs.Nodes.{flats_b}
 use Rattle.mesh_nodes.proofs.whole.whole.Given as goal
 
-abbrev pub invariant-loop-f : goal.invariant-loop-f
-invariant-loop-f l = (flats_b (node_rows (left l.t l.initial.f)) ≡ flats_b (node_rows (left l.t l.f))) × ((d : Cursor) × Reads 2 l.t d l.f)
-
-abbrev pub decreases-loop-f : goal.decreases-loop-f
-decreases-loop-f l = 2 * (length l.t - l.f.next.at) + l.f.kind
+abbrev pub invariant-loop-item : goal.invariant-loop-item
+invariant-loop-item l =
+    (l.item-iterator.t.now ≡ l.t) × (flats_b (node_rows (items_in l.t)) ≡ flats_b (node_rows (items_from l.t l.item-iterator.c)))

@@ -1,43 +1,45 @@
 -- `mesh_numbers::look::look_row` meets its contract: no numbers, or the first of nine. Assumes nothing.
 use mathlib.Core.Path.{◌≡◌, sym, ap, ◌∙◌, subst}
+use Prim.Native.Nat.{ℕ}
 use native.Mathlib.Omega.{arith}
-use lib.ListN.{length, take, drop}
+use lib.ListN.{take, drop}
+use Rattle.std.proofs.lemmas.List.{length-take-le}
 use Rattle.mesh_text.specs.Rows.{line}
-use Rattle.mesh_form.specs.Values.{type_of, size_of_type, nine}
-use Rattle.mesh_form.specs.Walk.{items_of}
-use Rattle.mesh_form.proofs.Said.{size_small, nine-length}
+use Rattle.mesh_form.specs.Values.{type_of, size_of_type}
+use Rattle.mesh_form.specs.Walk.{items_of, kind_number}
+use Rattle.mesh_form.proofs.Said.{nine-enough}
 use Rattle.mesh_numbers.specs.Numbers.{gather, wanted_by}
 use Rattle.mesh_numbers.specs.Windows.{Looks}
 use Rattle.mesh_numbers.proofs.Passes.{unwanted-row, wanted-row, wanted-size, looks-nil}
 use Rattle.mesh_numbers.proofs.look.look_row.Goals as goal
 
-pub returns-then-kind-ne2 : goal.returns-then-kind-ne2
-returns-then-kind-ne2 c =
+pub returns-in-Node : goal.returns-in-Node
+returns-in-Node c =
     let a = c.args in
-    looks-nil a.base a.lim a.flags.now a.p (gather wanted_by (items_of a.kind (line (drop a.at a.t.now))))
-    (unwanted-row a.kind (line (drop a.at a.t.now)) c.if-kind-ne2.true)
+    let row = line (drop a.item.at a.t.now) in
+    looks-nil a.base a.lim a.flags.now a.p _
+    (ap (λ k. gather wanted_by (items_of (kind_number k) row)) c.in-Node.is ∙ unwanted-row 1 row (λ e. absurd (omega arith)))
 
-pub returns-then-size-eq0 : goal.returns-then-size-eq0
-returns-then-size-eq0 c =
+pub slice_bounds-names-end : goal.slice_bounds-names-end
+slice_bounds-names-end c = nine-enough _ _ _ _ c.in-Some.ensures.size c.nine_at-names.ensures
+
+pub slice_bounds-look_among-end : goal.slice_bounds-look_among-end
+slice_bounds-look_among-end c =
+    sym (length-take-le {A = ℕ} c.in-Some.size c.nine_at-names.result (nine-enough _ _ _ _ c.in-Some.ensures.size c.nine_at-names.ensures))
+
+pub returns-in-None : goal.returns-in-None
+returns-in-None c =
     let a = c.args in
-    let row = line (drop a.at a.t.now) in
-    let size : c.size_of-size.result ≡ size_of_type (type_of row) = c.size_of-size.ensures ∙ ap size_of_type c.type_at.ensures in
-    looks-nil a.base a.lim a.flags.now a.p (gather wanted_by (items_of a.kind row))
-    (wanted-row a.kind row c.if-kind-ne2.false ∙ wanted-size row c.size_of-size.result size ∙ ap (λ k. take k (nine row)) c.if-size-eq0.true)
+    let row = line (drop a.item.at a.t.now) in
+    let size : 0 ≡ size_of_type (type_of row) = c.in-None.ensures.size ∙ ap size_of_type c.type_at.ensures in
+    looks-nil a.base a.lim a.flags.now a.p _ (wanted-row _ row (ap kind_number c.in-Element.is) ∙ wanted-size row 0 size)
 
-pub look_among-requires : goal.look_among-requires
-look_among-requires c =
-    let a = c.args in (
-      omega (arith, c.size_of-size.ensures, size_small c.type_at.result),
-      ap length c.nine_at.ensures ∙ nine-length (line (drop a.at a.t.now)),
-    )
-
-pub returns : goal.returns
-returns c =
+pub returns-in-Some : goal.returns-in-Some
+returns-in-Some c =
     let a = c.args in
-    let row = line (drop a.at a.t.now) in
-    let size : c.size_of-size.result ≡ size_of_type (type_of row) = c.size_of-size.ensures ∙ ap size_of_type c.type_at.ensures in
+    let row = line (drop a.item.at a.t.now) in
+    let size : c.in-Some.size ≡ size_of_type (type_of row) = c.in-Some.ensures.size ∙ ap size_of_type c.type_at.ensures in
     subst (λ l. Looks a.base a.lim a.flags.now a.p l c.look_among.result)
-    (ap (take c.size_of-size.result) c.nine_at.ensures
-    ∙ sym (wanted-row a.kind row c.if-kind-ne2.false ∙ wanted-size row c.size_of-size.result size))
+    (ap (take c.in-Some.size) c.nine_at-names.ensures
+    ∙ sym (wanted-row _ row (ap kind_number c.in-Element.is) ∙ wanted-size row c.in-Some.size size))
     c.look_among.ensures

@@ -7,13 +7,12 @@ use Prim.Native.Nat.{◌+◌, ◌*◌, min}
 use mathlib.Core.Path.{sym, ap, ◌∙◌}
 use Rattle.mesh_text.proofs.word.reads_to.Goals as goal
 
-pub loop-i-preserved : goal.loop-i-preserved
-loop-i-preserved c =
-    let l = c.loop-i in
+pub loop-b-preserved : goal.loop-b-preserved
+loop-b-preserved c =
+    let l = c.loop-b in
     let a = c.args in
-    let e = c.clip-v.ensures ∙ ap (λ d. min a.most (10 * l.v + d)) c.digit.ensures.0 in (
-      omega arith,
-      omega arith,
-      reads-step a.most l.v l.i a.w.now (omega arith) l.invariant.2
-          ∙ ap (λ n. min a.most (reads_on n (drop (l.i + 1) a.w.now))) (sym e),
+    let e = c.min-v.ensures ∙ ap (λ d. min a.most (10 * l.v + d)) c.digit.ensures.0 in (
+      omega (arith, e),
+      reads-step a.most l.v l.b-index a.w.now (omega arith) l.invariant.1
+          ∙ ap (λ n. min a.most (reads_on n (drop (l.b-index + 1) a.w.now))) (sym e),
     )

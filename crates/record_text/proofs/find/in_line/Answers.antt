@@ -7,4 +7,4 @@ use Rattle.record_text.proofs.find.in_line.Goals as goal
 pub returns-then-silent : goal.returns-then-silent
 returns-then-silent c =
     let a = c.args in
-    silent-none a.n (line (drop a.at a.t.now)) a.test c.none.result (c.silent.ensures.yes c.if-silent.true) c.none.ensures
+    silent-none a.n (line (drop a.at a.t.now)) a.test (c.silent.ensures.yes c.if-silent.true)

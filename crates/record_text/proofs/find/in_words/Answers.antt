@@ -2,7 +2,6 @@
 use mathlib.Core.Path.{◌≡◌, ap, ◌∙◌}
 use mathlib.Core.Bool.{true}
 use mathlib.Core.List.{[]}
-use mathlib.Core.Logic.{inl}
 use Prim.Native.Nat.{◌≤◌}
 use native.Mathlib.Omega.{arith}
 use lib.ListN.{length, drop, drop_of_length-le}
@@ -20,4 +19,4 @@ returns c =
     let h : length a.t.now ≤ l.p = omega arith in
     let z : drop l.p a.t.now ≡ [] = drop_of_length-le a.t.now h in
     let e : is_nil (line (drop l.p a.t.now)) ≡ true = ap (λ u. is_nil (line u)) z ∙ ap is_nil line-nil in
-    inl (words-end (code_of a.test) a.n (Flawed (FlawBy a.test) (line (drop a.at a.t.now))) l.k (line (drop l.p a.t.now)) e l.invariant.2, c.none-2.ensures)
+    words-end (code_of a.test) a.n (Flawed (FlawBy a.test) (line (drop a.at a.t.now))) l.k (line (drop l.p a.t.now)) e l.invariant.2
