@@ -14,7 +14,7 @@ ghost use Rattle.floor.specs.Calls.{floor_codes, FloorOf, ToldBy};
 
 use faults::kind::Kind;
 use faults::refusal::Refusal;
-use points::{across, coordinates};
+use points::{Net, coordinates};
 use steps::Walk;
 use verdict::{Judged, Word, verdict};
 
@@ -32,7 +32,7 @@ fn straight(coords: &[i32]) -> i64
 {
     let x = coordinates(coords, 9, 0);
     let y = coordinates(coords, 9, 1);
-    across(&x, &y, 0, 1, 0, 2)
+    Net { x, y }.across(0, 1, 0, 2)
 }
 
 // 2·p·S.
@@ -62,7 +62,7 @@ fn walk_floor(coords: &[i32], p: u8, limit: u32) -> Walk
 {
     let less = twice_share(coords, p);
     let c = shifted(triangle::values(coords), less);
-    triangle_walk::walk_cell(c, limit, 0, limit, 0, 0, true)
+    triangle_walk::walk_cell(&c, limit, 0, limit, 0, 0, true)
 }
 
 // Refusal 1, 2, 3, 4, 21, 16 or 17, or none.

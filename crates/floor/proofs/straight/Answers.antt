@@ -9,10 +9,10 @@ use Rattle.points.specs.Points.{across}
 use Rattle.floor.proofs.Room.{straight-is, ten-wide}
 use Rattle.floor.proofs.straight.Goals as goal
 
-pub across-requires : goal.across-requires
-across-requires c =
+pub invariant_of-across : goal.invariant_of-across
+invariant_of-across c =
     let p = c.requires in
-    record { first = rw c.coordinates-x.ensures (ten-wide p 0); second = rw c.coordinates-y.ensures (ten-wide p 1) }
+    record { along_x = rw c.coordinates-x.ensures (ten-wide p 0); along_y = rw c.coordinates-y.ensures (ten-wide p 1) }
 
 pub returns : goal.returns
 returns c = to_z-of_z {w = w64} (sfits_of c.across.type_inv) ∙ c.across.ensures ∙ ap₂ (λ (u v : List ℤ). across u v 0 1 0 2) c.coordinates-x.ensures c.coordinates-y.ensures ∙ straight-is c.args.coords.now c.requires
