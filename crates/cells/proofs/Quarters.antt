@@ -1,14 +1,14 @@
 -- A quarter by a table of the code, one row after the other.
 --   tables      == the tables of the four quarters, which the code's table is to be
 --   table_of    : the one of a quarter, and what its rows add up to
---   row_room    : there is room for a sum by a row of a table whose rows add up to g
+--   table-room  : there is room for the sums by the rows of a table whose rows add up to g
 --   row-value   : a sum by row k of the table of a quarter is value k of the quarter
 --   last-quarter : which quarter is left after the first three
 --   quarter-of  : as many values as the quarter has, filled in one after the other, are the quarter
 -- Each once, for every shape and its tables. Assumes nothing.
 use mathlib.Core.Path.{◌≡◌, refl, sym, ◌∙◌, ap}
 use mathlib.Core.List.{List, [], ◌∷◌}
-use Prim.Native.Nat.{ℕ, zero, suc, ◌*◌, ◌^◌, ◌≤◌, ◌<◌}
+use Prim.Native.Nat.{ℕ, zero, suc, ◌*◌, ◌^◌, ◌<◌}
 use native.Mathlib.Nat as N
 use native.Mathlib.Omega.{arith}
 use lib.Dec.{T}
@@ -24,7 +24,7 @@ use Rattle.forms.specs.Cuttings.{Four, first, second, third, fourth, four_of}
 use Rattle.forms.specs.Shapes.{Shape, cut_to, Lawful}
 use Rattle.forms.proofs.Cells.{rows_add-at, get_d-quarter}
 use Rattle.forms.proofs.Cuttings.{four-at}
-use Rattle.cells.specs.Room.{Room}
+use Rattle.cells.specs.Room.{TableRoom}
 
 abbrev pub tables : Shape → List (List Row)
 tables S = S.table first ∷ S.table second ∷ S.table third ∷ S.table fourth ∷ []
@@ -46,10 +46,9 @@ last-quarter (suc zero) f g h = absurd (g refl)
 last-quarter (suc (suc zero)) f g h = absurd (h refl)
 last-quarter (suc (suc (suc i))) f g h = refl
 
-pub row_room : (g m : ℕ) (t : List Row) (k : ℕ) (c : List ℤ) → T (rows_add g t) → length (get_or t k []) ≤ length c → Each m c → g * m < 2 ^ 63
-    → Room (get_or t k []) c
-row_room g m t k c a l h b =
-    record { long = l; size = m; each = h; below = N.lt_of_le_of_lt (N.mul-le-mul (rows_add-at g t a k) (N.le_refl m)) b }
+pub table-room : (g m : ℕ) (t : List Row) (c : List ℤ) → T (rows_add g t) → Each m c → g * m < 2 ^ 63 → TableRoom t c
+table-room g m t c a h b =
+    record { size = m; each = h; below = λ k. N.lt_of_le_of_lt (N.mul-le-mul (rows_add-at g t a k) (N.le_refl m)) b }
 
 pub row-value : (S : Shape) (i : Four) (t : List Row) (k : ℕ) (c : List ℤ) {r : ℤ} → t ≡ S.table i → r ≡ dot (get_or t k []) c
     → r ≡ get_or (cut_to S i c) k (pos 0)

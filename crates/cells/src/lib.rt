@@ -2,8 +2,8 @@
 #![tactic(auto)]
 
 ghost use Rattle.std.specs.Prelude.{◌≡◌, pos};
-ghost use Rattle.forms.specs.Cells.{dot, non_negatives};
-ghost use Rattle.cells.specs.Room.{Room};
+ghost use Rattle.forms.specs.Cells.{dot, non_negatives, quarter};
+ghost use Rattle.cells.specs.Room.{Room, TableRoom};
 
 // The same number, signed.
 fn signed(weight: u8) -> i64
@@ -22,6 +22,18 @@ pub fn weighed(row: &[u8], c: &[i64]) -> i64
         sum += signed(row[k]) * c[k];
     }
     sum
+}
+
+// The sums of the values by the rows of a table, in their order.
+pub fn by_rows<const N: usize>(rows: &[[u8; N]; N], c: &[i64; N]) -> [i64; N]
+    requires { TableRoom rows.now c.now }
+    ensures { result ≡ quarter rows.now c.now }
+{
+    let mut values = [0; N];
+    for k in 0..N {
+        values[k] = weighed(&rows[k], c);
+    }
+    values
 }
 
 // Whether no value is negative.

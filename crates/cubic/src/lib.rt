@@ -203,6 +203,7 @@ fn row(r: &Net, i: usize, j: usize, k: usize, i1: usize, j1: usize, k1: usize) -
 }
 
 // What value (i, j, k) multiplies its sum by.
+// stays (2): that of a quad is by binomials and 9, with another contract; so are `choose` (to 2, and to 3) and `term`.
 fn weight(i: usize, j: usize, k: usize) -> i64
     requires { i + j + k < 5 }
     ensures { result ≡ pos (12 / binomials.multinomial i j k) }

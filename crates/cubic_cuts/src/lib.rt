@@ -26,6 +26,7 @@ pub fn passes(c: &[i64; 15]) -> bool
     corners_positive(c) & none_negative(c)
 }
 
+// stays (2): that of six values has its corners at other places; `TriangleCell` has both as its method.
 // The first bad corner of a cell of a level, with its corners at the columns xs and the rows ys.
 pub fn first_bad(c: &[i64; 15], level: u32, xs: [u32; 3], ys: [u32; 3]) -> First
     ensures { result ≡ first_bad (tips ten) c.now level xs ys }

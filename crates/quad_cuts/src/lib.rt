@@ -11,7 +11,7 @@ ghost use Rattle.forms.specs.Shapes.{tips, pass, cut_to};
 ghost use Rattle.forms.specs.Quads.{quad};
 ghost use Rattle.quad_cuts.specs.Corners.{first_bad};
 
-use cells::{none_negative, weighed};
+use cells::{by_rows, none_negative};
 use corners::{First, better, corner};
 
 // "As a table, the four quarter tables hold 1,024 whole numbers; every row adds to 64. Quarters run lower-left, lower-right,
@@ -92,6 +92,7 @@ const QUARTERS: [[[u8; 16]; 16]; 4] = [
     ],
 ];
 
+// stays (2): the tables differ in size, numbers and rule; their sums are one function, `by_rows`.
 // The table of quarter i: along each direction the binomial rule, and "the two directions multiply"; "every row adds to 64".
 fn table(i: u8) -> [[u8; 16]; 16]
     requires { i < 4 }
@@ -107,12 +108,7 @@ pub fn quarter(c: [i64; 16], i: u8) -> [i64; 16]
     requires { (i < 4) × Each 72057594037927936 c }
     ensures { result ≡ cut_to quad (four_of i) c }
 {
-    let rows = table(i);
-    let mut values = [0; 16];
-    for k in 0..16 {
-        values[k] = weighed(&rows[k], &c);
-    }
-    values
+    by_rows(&table(i), &c)
 }
 
 // Whether the corner values are all above zero, without a branch on a value.

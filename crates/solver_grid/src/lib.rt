@@ -93,6 +93,7 @@ fn put_numbers(out: &mut [i32], xs: &[f64])
 }
 
 // Writes the float of each whole number at the buffer's start.
+// stays (2): one function for this and `put_numbers` would take `number` as a closure with its `pre` at each item, and be longer than both.
 fn put_floats(out: &mut [f64], xs: &[i32])
     requires { length xs.now ≤ length out.old }
     ensures { Filled Over (length xs.now) xs.now out.old out.new }
@@ -167,6 +168,7 @@ pub fn scale_coordinates(kind: u8, xs: &[f64], out: &mut [i32]) -> Scaled
 }
 
 // Whole-number coordinates over 1024, at the start of a lent buffer.
+// stays (2): the two calls differ in their orders of codes, types and steps; only the frame is alike.
 pub fn unscale_coordinates(kind: u8, xs: &[i32], out: &mut [f64]) -> Scaled
     ensures { UnscaleCoordinates kind xs.now out.old result out.new }
 {

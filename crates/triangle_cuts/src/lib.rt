@@ -11,7 +11,7 @@ ghost use Rattle.forms.specs.Cuttings.{four_of};
 ghost use Rattle.forms.specs.Shapes.{tips, pass, cut_to};
 ghost use Rattle.forms.specs.Triangles.{six};
 
-use cells::{none_negative, weighed};
+use cells::{by_rows, none_negative};
 use corners::{First, better, corner};
 
 // The weights of the values of a cell in those of its quarters: "V0 E01 E02; E01 V1 E12; E02 E12 V2; E12 E02 E01". Beside each
@@ -66,12 +66,7 @@ pub fn quarter(c: [i64; 6], i: u8) -> [i64; 6]
     requires { (i < 4) × Each 1152921504606846976 c }
     ensures { result ≡ cut_to six (four_of i) c }
 {
-    let rows = table(i);
-    let mut values = [0; 6];
-    for k in 0..6 {
-        values[k] = weighed(&rows[k], &c);
-    }
-    values
+    by_rows(&table(i), &c)
 }
 
 // Whether the corner values are all above zero, without a branch on a value.
