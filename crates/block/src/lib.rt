@@ -37,6 +37,7 @@ pub struct Checked {
 }
 
 // The code, the record number, and a record.
+// stays (2): (a) beside `Record`: `fetched`, `NoRecord` and `IsRecord` hold its fields, which the rules give the call.
 #[derive(Clone, Copy)]
 pub struct Fetched {
     pub code: u8,
@@ -78,8 +79,7 @@ fn header_code(bytes: &[u8]) -> Result<(), Refusal>
     if 800 < count {
         return Err(Refusal::Size);
     }
-    let size = 9 + 80 * count;
-    if bytes.len() != (size as usize) {
+    if bytes.len() != 9 + 80 * (count as usize) {
         return Err(Refusal::Size);
     }
     Ok(())

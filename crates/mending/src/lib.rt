@@ -5,13 +5,15 @@ ghost use Rattle.std.specs.Prelude.{◌≡◌, cond, ◌+◌, ◌≤◌, ◌<◌
 ghost use Rattle.block.specs.Block.{place};
 ghost use Rattle.block.specs.Changes.{with_sign};
 ghost use Rattle.mending.specs.Changes.{with_node};
-ghost use Rattle.mending.specs.Calls.{answer_of, Mends};
-ghost use Rattle.mending.specs.Steps.{as_record, as_vec, Sound, Tells, Tried};
+ghost use Rattle.mending.specs.Calls.{answer_of, as_mended, Mends};
+ghost use Rattle.mending.specs.Steps.{as_vec, Sound, Tells, Tried};
 
-use block::{Fetched, fetch_record};
+use block::{Refused, fetch};
 use endian::put_i32;
+use faults::refusal::Refusal;
 use middles::Node;
-use straighten::{Moved, Straightened, refused, set, straighten, told};
+use record::Record;
+use straighten::{Moved, Straightened, choose, refused, set, told};
 
 // The code, the record number, and what became of the middle nodes.
 #[derive(Clone, Copy)]
@@ -39,34 +41,44 @@ fn answer(code: u8, number: u32, t: Straightened) -> Mended
     }
 }
 
-// The answer about record k, which was fetched.
-fn of_record(f: Fetched, k: u32) -> Mended
-    requires { Sound (as_record f) }
-    ensures { Tells (as_record f) k result }
+// The answer that tells what became of the middle nodes, or a refusal.
+fn tell(done: Result<Straightened, Refused>) -> Mended
+    ensures { result ≡ as_mended done }
 {
-    if f.kind != 6 {
-        return answer(1, k, refused(1));
+    match done {
+        Ok(t) => answer(0, 0, t),
+        Err(e) => {
+            let code = e.refusal.number();
+            answer(code, e.number, refused(code))
+        }
     }
-    let coords = f.coords;
-    if f.signed == 1 {
-        return answer(0, 0, told(&coords[..12], set(false, false, false)));
-    }
-    let t = straighten(6, f.limit, &coords[..12]);
-    if t.code != 0 {
-        return answer(t.code, k, t);
-    }
-    answer(0, 0, t)
 }
 
-// The answer about record k of a block, which is not changed yet.
-fn try_record(bytes: &[u8], k: u32) -> Mended
-    ensures { Tried bytes.now k result }
+// What becomes of the middle nodes of record k.
+fn of_record(r: Record, k: u32) -> Result<Straightened, Refused>
+    requires { Sound r }
+    ensures { Tells r k (as_mended result) }
 {
-    let f = fetch_record(bytes, k);
-    if f.code != 0 {
-        return answer(f.code, f.number, refused(f.code));
+    if r.kind != 6 {
+        let refusal = Refusal::Kind;
+        return Err(Refused { refusal, number: k });
     }
-    of_record(f, k)
+    let coords = r.coords;
+    if r.signed == 1 {
+        return Ok(told(&coords[..12], set(false, false, false)));
+    }
+    match choose(6, r.limit, &coords[..12]) {
+        Ok(s) => Ok(told(&coords[..12], s)),
+        Err(refusal) => Err(Refused { refusal, number: k }),
+    }
+}
+
+// The same of record k of a block, which is not changed yet.
+fn try_record(bytes: &[u8], k: u32) -> Result<Straightened, Refused>
+    ensures { Tried bytes.now k (as_mended result) }
+{
+    let r = fetch(bytes, k)?;
+    of_record(r, k)
 }
 
 // A point, written as node i of record k.
@@ -108,20 +120,24 @@ fn unsign(block: &mut [u8], k: u32, replaced: bool)
     block[next] = 0;
 }
 
-// Record k of a block, straightened at its stored limit.
-pub fn straighten_record(block: &mut [u8], k: u32) -> Mended
-    ensures { Mends block.old k result block.new }
+// The steps of `straighten_record`.
+fn mend(block: &mut [u8], k: u32) -> Result<Straightened, Refused>
+    ensures { Mends block.old k (as_mended result) block.new }
 {
-    let m = try_record(block, k);
-    if m.code != 0 {
-        return m;
-    }
-    let a = m.m01;
-    let b = m.m12;
-    let c = m.m02;
+    let t = try_record(block, k)?;
+    let a = t.m01;
+    let b = t.m12;
+    let c = t.m02;
     put_moved(block, k, 3, a);
     put_moved(block, k, 4, b);
     put_moved(block, k, 5, c);
     unsign(block, k, a.replaced | b.replaced | c.replaced);
-    m
+    Ok(t)
+}
+
+// Record k of a block, straightened at its stored limit.
+pub fn straighten_record(block: &mut [u8], k: u32) -> Mended
+    ensures { Mends block.old k result block.new }
+{
+    tell(mend(block, k))
 }

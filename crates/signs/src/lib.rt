@@ -12,10 +12,7 @@ use verdict::{Judged, Word, verdict};
 pub fn used_numbers(kind: u8) -> usize
     ensures { result ≡ min (2 * kind) 18 }
 {
-    if 9 < kind {
-        return 18;
-    }
-    2 * (kind as usize)
+    (2 * usize::from(kind)).min(18)
 }
 
 // The verdict of a record's element under a limit, from the record's 18 numbers.
@@ -28,6 +25,7 @@ pub fn judge(kind: u8, limit: u8, coords: &[i32]) -> Judged
 }
 
 // The byte that stands for the word of a verdict.
+// stays (4): (d) a `From<Word>` would stand where `Word` does, below what a sign is.
 pub fn sign_of(word: Word) -> u8
     ensures { result ≡ sign_of_word word }
 {
@@ -40,6 +38,7 @@ pub fn sign_of(word: Word) -> u8
 }
 
 // The limit under which a record is judged.
+// stays (5): (a) a floor judges a record without the sign that it has, so that `sign_by` of list gives another first byte.
 pub fn limit_of(limit: u8, signed: u8, level: u8) -> u8
     ensures { result ≡ cond (eqb signed 0) limit level }
 {
@@ -62,7 +61,7 @@ pub fn differs(r: Record) -> bool
     if sign_of(word) != r.signed {
         return true;
     }
-    if v.level != (r.level as u32) {
+    if v.level != u32::from(r.level) {
         return true;
     }
     false

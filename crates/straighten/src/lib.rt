@@ -15,6 +15,7 @@ use faults::six_code;
 use middles::{Node, Replaced, new_node, node_at, with_set};
 use verdict::{is_valid, verdict};
 
+// stays (1): (a) `moved` and `given` hold the flag, and the rules give both places of a node that is kept.
 // What became of a middle node: whether it was replaced, its old and its new place.
 #[derive(Clone, Copy)]
 pub struct Moved {

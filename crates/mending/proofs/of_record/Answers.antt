@@ -1,17 +1,18 @@
 -- `mending::of_record` meets its contract: by the kind, by the sign, and else by what `straighten` answers. Assumes nothing.
-use mathlib.Core.Path.{◌≡◌, sym, ◌∙◌, ap, subst}
+use mathlib.Core.Path.{◌≡◌, refl, sym, ◌∙◌, ap, subst}
 use mathlib.Core.List.{List}
 use Prim.Native.Nat.{ℕ, ◌*◌}
 use lib.IntN.{ℤ}
 use lib.ListN.{take}
+use Rattle.faults.specs.Refusal.{number_of}
+use Rattle.faults.proofs.Refusals.{number-some}
 use Rattle.middles.specs.Sets.{none}
 use Rattle.straighten.specs.declared.Straightened.{Straightened}
-use Rattle.straighten.specs.Calls.{given, StraightenOf}
+use Rattle.straighten.specs.Calls.{given, refusal, StraightenOf}
 use Rattle.record.specs.declared.Record.{Record}
 use Rattle.record.specs.Record.{used}
 use Rattle.mending.specs.Calls.{answer_of}
-use Rattle.mending.specs.Steps.{as_record}
-use Rattle.mending.proofs.Answers.{signed-valid, straight-refused, straight-told}
+use Rattle.mending.proofs.Answers.{other-kind, signed-valid, straight-refused, straight-told}
 use Rattle.mending.proofs.of_record.Goals as goal
 
 -- the first twelve numbers of a triangle's record are its coordinates
@@ -22,22 +23,25 @@ used-twelve r e = ap (λ (n : ℕ). take (2 * n) r.coords) (sym e)
 answered : (r : Record) (t : Straightened) → r.kind ≡ 6 → StraightenOf 6 r.limit (take 12 r.coords) t → StraightenOf 6 r.limit (used r) t
 answered r t e p = subst (λ (xs : List ℤ). StraightenOf 6 r.limit xs t) (used-twelve r e) p
 
-pub returns-then-f-eq1 : goal.returns-then-f-eq1
-returns-then-f-eq1 c =
-    let a = c.args in let r = as_record a.f in
-    signed-valid r a.k c.if-f-ne6.false (c.requires.taken c.if-f-ne6.false) c.if-f-eq1.true
-    (c.answer-then-f-eq1.ensures
-    ∙ ap (answer_of 0 0)
-    (c.told.ensures ∙ ap (given (take 12 a.f.coords)) c.set.ensures ∙ ap (λ (xs : List ℤ). given xs none) (used-twelve r c.if-f-ne6.false)))
+pub returns-then-r-ne6 : goal.returns-then-r-ne6
+returns-then-r-ne6 c = other-kind c.args.r c.args.k c.if-r-ne6.true refl
 
-pub returns-then-t-ne0 : goal.returns-then-t-ne0
-returns-then-t-ne0 c =
-    let a = c.args in
-    straight-refused (as_record a.f) a.k c.if-f-ne6.false (c.requires.taken c.if-f-ne6.false) c.if-f-eq1.false
-    (answered (as_record a.f) c.straighten-t.result c.if-f-ne6.false c.straighten-t.ensures) c.if-t-ne0.true c.answer-then-t-ne0.ensures
+pub returns-then-r-eq1 : goal.returns-then-r-eq1
+returns-then-r-eq1 c =
+    let a = c.args in let r = a.r in
+    signed-valid r a.k c.if-r-ne6.false (c.requires.taken c.if-r-ne6.false) c.if-r-eq1.true
+    (ap (answer_of 0 0)
+    (c.told.ensures ∙ ap (given (take 12 r.coords)) c.set.ensures ∙ ap (λ (xs : List ℤ). given xs none) (used-twelve r c.if-r-ne6.false)))
 
-pub returns : goal.returns
-returns c =
-    let a = c.args in
-    straight-told (as_record a.f) a.k c.if-f-ne6.false (c.requires.taken c.if-f-ne6.false) c.if-f-eq1.false
-    (answered (as_record a.f) c.straighten-t.result c.if-f-ne6.false c.straighten-t.ensures) c.if-t-ne0.false c.answer-2.ensures
+pub returns-in-Err : goal.returns-in-Err
+returns-in-Err c =
+    let a = c.args in let r = a.r in
+    let e = c.in-Err.refusal in
+    straight-refused r a.k c.if-r-ne6.false (c.requires.taken c.if-r-ne6.false) c.if-r-eq1.false
+    (answered r (refusal (number_of e)) c.if-r-ne6.false c.in-Err.ensures) (number-some e) refl
+
+pub returns-in-Ok : goal.returns-in-Ok
+returns-in-Ok c =
+    let a = c.args in let r = a.r in
+    straight-told r a.k c.if-r-ne6.false (c.requires.taken c.if-r-ne6.false) c.if-r-eq1.false
+    (answered r (given (take 12 r.coords) c.in-Ok.s) c.if-r-ne6.false c.in-Ok.ensures) refl (ap (answer_of 0 0) c.told-in-Ok.ensures)

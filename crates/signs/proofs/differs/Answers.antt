@@ -14,4 +14,4 @@ says-no d = record { yes = λ e. absurd (subst T (sym e) tt); no = λ e. d }
 pub returns : goal.returns
 returns c =
     let r = c.args.r in
-    λ v w. says-no (agrees r w c.if-r-eq0.false c.judge-v.ensures (sym c.sign_of.ensures ∙ c.if-sign_of-r.false) c.if-v-r.false)
+    λ v w. says-no (agrees r w c.if-r-eq0.false c.judge-v.ensures (sym c.sign_of.ensures ∙ c.if-sign_of-r.false) (rw c.from.ensures at c.if-v-from.false))

@@ -1,20 +1,23 @@
--- `mending::straighten_record` meets its contract: a refusal writes nothing; else the replaced nodes are written, and the sign is dropped.
+-- `mending::mend` meets its contract: a refusal writes nothing; else the replaced nodes are written, and the sign is dropped.
 -- Assumes nothing.
-use mathlib.Core.Path.{◌≡◌, ap}
+use Rattle.std.proofs.Common.{Ok}
+use Rattle.std.proofs.lemmas.Result.{err_from_is_err_and}
+use mathlib.Core.Path.{◌≡◌, refl, ap}
 use mathlib.Core.List.{List}
 use mathlib.Core.Logic.{inl, inr}
 use Prim.Native.Nat.{ℕ, ◌+◌, ◌≤◌}
 use native.Mathlib.Omega.{arith}
 use lib.Dec.{lit<}
 use lib.ListN.{length}
+use Rattle.faults.proofs.Refusals.{number-some}
 use Rattle.record.specs.Record.{used}
 use Rattle.block.specs.Block.{place, record_at}
 use Rattle.mending.specs.declared.Mended.{Mended}
-use Rattle.mending.specs.Calls.{NotMended, IsMended}
+use Rattle.mending.specs.Calls.{as_mended, NotMended, IsMended}
 use Rattle.mending.specs.Steps.{Tried}
 use Rattle.mending.proofs.Orders.{mend-room, mend-some}
 use Rattle.mending.proofs.Writes.{all-written}
-use Rattle.mending.proofs.straighten_record.Goals as goal
+use Rattle.mending.proofs.mend.Goals as goal
 
 refused : {l : List ℕ} {k : ℕ} {m : Mended} → Tried l k m → ¬ (m.code ≡ 0) → NotMended l k m l
 refused (inl p) h = p
@@ -24,36 +27,38 @@ mended : {l : List ℕ} {k : ℕ} {m : Mended} → Tried l k m → m.code ≡ 0 
 mended {l} {k} {m} (inl p) h = absurd (mend-some l k (record { code = m.code; number = m.number }) p.refused h)
 mended (inr p) h = p
 
-pub returns-then-m-ne0 : goal.returns-then-m-ne0
-returns-then-m-ne0 c = inl (refused c.try_record-m.ensures c.if-m-ne0.true)
+pub returns-in_err-t : goal.returns-in_err-t
+returns-in_err-t c =
+    let p = err_from_is_err_and c.from_residual.result c.from_residual.ensures.1 in
+    rw (p.1, p.2) (inl (refused c.in_err-t.ensures (number-some _)))
 
 pub put_moved-requires : goal.put_moved-requires
 put_moved-requires c =
-    let done : let a = c.args in (o : List ℕ) × IsMended a.block.now a.k c.try_record-m.result o = mended c.try_record-m.ensures c.if-m-ne0.false in
+    let done : let a = c.args in (o : List ℕ) × IsMended a.block.now a.k (as_mended (Ok c.in_ok-t.t)) o = mended c.in_ok-t.ensures refl in
     let room : let a = c.args in place a.k + 80 ≤ length a.block.now = (let a = c.args in mend-room a.block.now a.k done.1.accepted) in
     (room, lit< tt)
 
 pub put_moved-requires-2 : goal.put_moved-requires-2
 put_moved-requires-2 c =
-    let done : let a = c.args in (o : List ℕ) × IsMended a.block.now a.k c.try_record-m.result o = mended c.try_record-m.ensures c.if-m-ne0.false in
+    let done : let a = c.args in (o : List ℕ) × IsMended a.block.now a.k (as_mended (Ok c.in_ok-t.t)) o = mended c.in_ok-t.ensures refl in
     let room : let a = c.args in place a.k + 80 ≤ length a.block.now = (let a = c.args in mend-room a.block.now a.k done.1.accepted) in
     (omega (arith, room, c.put_moved.auto.block), lit< tt)
 
 pub put_moved-requires-3 : goal.put_moved-requires-3
 put_moved-requires-3 c =
-    let done : let a = c.args in (o : List ℕ) × IsMended a.block.now a.k c.try_record-m.result o = mended c.try_record-m.ensures c.if-m-ne0.false in
+    let done : let a = c.args in (o : List ℕ) × IsMended a.block.now a.k (as_mended (Ok c.in_ok-t.t)) o = mended c.in_ok-t.ensures refl in
     let room : let a = c.args in place a.k + 80 ≤ length a.block.now = (let a = c.args in mend-room a.block.now a.k done.1.accepted) in
     (omega (arith, room, c.put_moved.auto.block, c.put_moved-2.auto.block), lit< tt)
 
 pub unsign-requires : goal.unsign-requires
 unsign-requires c =
-    let done : let a = c.args in (o : List ℕ) × IsMended a.block.now a.k c.try_record-m.result o = mended c.try_record-m.ensures c.if-m-ne0.false in
+    let done : let a = c.args in (o : List ℕ) × IsMended a.block.now a.k (as_mended (Ok c.in_ok-t.t)) o = mended c.in_ok-t.ensures refl in
     let room : let a = c.args in place a.k + 80 ≤ length a.block.now = (let a = c.args in mend-room a.block.now a.k done.1.accepted) in
     omega (arith, room, c.put_moved.auto.block, c.put_moved-2.auto.block, c.put_moved-3.auto.block)
 
 pub returns : goal.returns
 returns c =
-    let done : let a = c.args in (o : List ℕ) × IsMended a.block.now a.k c.try_record-m.result o = mended c.try_record-m.ensures c.if-m-ne0.false in
+    let done : let a = c.args in (o : List ℕ) × IsMended a.block.now a.k (as_mended (Ok c.in_ok-t.t)) o = mended c.in_ok-t.ensures refl in
     let a = c.args in
     let l = a.block.now in let d = done.1 in
     inr
