@@ -1,14 +1,14 @@
 -- The elements of a good text, tried behind a good block.
 --   not_taken, is-taken : what the call answers, by what the pass met
 -- Assumes nothing.
-use mathlib.Core.Path.{◌≡◌, refl, sym, ap, ap₂, ◌∙◌, subst}
+use mathlib.Core.Path.{◌≡◌, refl, ap, ap₂, ◌∙◌}
 use mathlib.Core.List.{List}
 use Prim.Native.Nat.{ℕ, ◌+◌, ◌*◌}
 use native.Mathlib.Omega.{arith}
 use lib.ListN.{length, take}
 use Rattle.element.specs.Refusals.{Accepted}
 use Rattle.endian.specs.Numbers.{Bytes, bytes, over}
-use Rattle.append.specs.Series.{Series, IdsFit}
+use Rattle.append.specs.Series.{IdsFit}
 use Rattle.append.proofs.Series.{stops-some}
 use Rattle.batch.specs.declared.Tally.{Tally}
 use Rattle.batch.specs.Tallies.{opening, Moved, Halted}
@@ -28,12 +28,10 @@ module _ (t : List ℕ) (level : ℕ) (b : List ℕ) (used : ℕ) (y : Bytes b) 
   fit : IdsFit (taken_in level t)
   fit = takings-fit told.takings (numbers-small told.mesh.form)
 
-  pub not_taken : (s : Tally) (r : Meshed) (o c : List ℕ)
-      → Halted (taken_in level t) (opening b used) o s c
-      → r ≡ refusal s.code 0
-      → NotTaken t level b used r b
-  not_taken s r o c h e =
-      let k : s.code ≡ r.code = ap (λ m. m.code) (sym e) in
+  pub not_taken : (d : ℕ) (o c : List ℕ)
+      → Halted (taken_in level t) (opening b used) o d c
+      → NotTaken t level b used (refusal d 0) b
+  not_taken d o c h =
       let q = batch-stopped b used (buffer-accepted t b used a) y fit h in
       record {
         accepted = a;
@@ -41,9 +39,9 @@ module _ (t : List ℕ) (level : ℕ) (b : List ℕ) (used : ℕ) (y : Bytes b) 
         passed = passed_in t;
         said = told;
         left = q.0;
-        stopped = subst (λ n. Series b used (taken_in level t) (record { code = n; number = 0; used = 0 }) q.0) k q.1;
-        some = λ z. stops-some h.stops (k ∙ z);
-        zeros = e ∙ ap (λ n. refusal n 0) k;
+        stopped = q.1;
+        some = λ z. stops-some h.stops z;
+        zeros = refl;
         untouched = refl;
       }
 

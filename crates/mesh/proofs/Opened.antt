@@ -1,11 +1,11 @@
 -- What the codes before the elements are.
 --   buffer-refused, text-refused, mesh-accepted : the order of the text, and then that of the buffer
 --   text-accepted, buffer-accepted : what a call that is accepted has met
---   not_opened     : the answer of a refusal before any element
+--   refused-answer : the answer of a refusal before any element
 --   zeros-seat     : places that are clear
 --   used-beyond, block_refused, block-counted : by what `used` and the check of the block say
 -- Assumes nothing.
-use mathlib.Core.Path.{◌≡◌, refl, sym, ap, subst}
+use mathlib.Core.Path.{◌≡◌, refl, ap}
 use mathlib.Core.Logic.{inl, inr}
 use mathlib.Core.List.{List}
 use Prim.Native.Nat.{ℕ, zero, suc, ◌≤◌, ◌<◌}
@@ -13,6 +13,9 @@ use native.Mathlib.Omega.{arith}
 use lib.ListN.{length, take, replicate}
 use Rattle.element.proofs.Refusals.{refused-then, past-then, accepted-then, then-accepted}
 use Rattle.element.specs.Refusals.{Refused, Accepted}
+use Rattle.std.specs.Prelude.{Err}
+use Rattle.faults.specs.Refusal.{number_of}
+use Rattle.block.specs.declared.Refused.{Refused as RefusedAnswer}
 use Rattle.block.specs.Block.{count_of}
 use Rattle.block.specs.declared.Checked.{Checked}
 use Rattle.block.specs.Calls.{Checks}
@@ -22,8 +25,7 @@ use Rattle.block.proofs.Walk.{block-some}
 use Rattle.append.specs.Append.{buffer_codes}
 use Rattle.mesh_text.specs.Rows.{none, both}
 use Rattle.mesh_nodes.specs.Nodes.{Seats}
-use Rattle.mesh.specs.declared.Meshed.{Meshed}
-use Rattle.mesh.specs.Calls.{text_codes, mesh_codes, refusal, NotOpened}
+use Rattle.mesh.specs.Calls.{text_codes, mesh_codes, as_meshed, AppendsMesh}
 
 module _ (t b : List ℕ) (used : ℕ) where
   pub buffer-refused : (f : Fault) → Accepted (text_codes t) → Refused (buffer_codes b used) f → Refused (mesh_codes t b used) f
@@ -42,13 +44,9 @@ module _ (t b : List ℕ) (used : ℕ) where
   buffer-accepted a = (then-accepted (naming 0 (text_codes t)) (buffer_codes b used) a).1
 
   -- ---- the answer
-  pub not_opened : (f : Fault) (r : Meshed) → Refused (mesh_codes t b used) f → r ≡ refusal f.code f.number → NotOpened t b used r b
-  not_opened f r h e =
-      record {
-        refused = subst (λ q. Refused (mesh_codes t b used) (record { code = q.code; number = q.number })) (sym e) h;
-        zeros = subst (λ q. q ≡ refusal q.code q.number) (sym e) refl;
-        untouched = refl;
-      }
+  pub refused-answer : (level : ℕ) (e : RefusedAnswer) → Refused (mesh_codes t b used) (record { code = number_of e.refusal; number = e.number })
+      → AppendsMesh t level b used (as_meshed (Err e)) b
+  refused-answer level e h = inl (record { refused = h; zeros = refl; untouched = refl })
 
   pub used-beyond : Accepted (text_codes t) → length b < used → Refused (mesh_codes t b used) (record { code = 5; number = 0 })
   used-beyond a h = buffer-refused (record { code = 5; number = 0 }) a (inl (h, refl))

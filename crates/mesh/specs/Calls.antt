@@ -5,6 +5,7 @@
 --   mesh_codes t b used == "then append's for `used` and block, even with nothing to append"
 --   Said t level gs p == gs are what is taken of the text, each with this level limit, and p of its elements are passed over
 --   refusal c n      == the answer of a refusal
+--   as_meshed d      == the answer that the call's result tells
 --   NotOpened t b used r a == a refusal before any element is tried
 --   NotTaken t level b used r a == a refusal of an element: the code of the first `append_record` of the run that is refused
 --   IsTaken t level b used r a == a success: what the run of `append_record` over all of them answers and leaves
@@ -12,15 +13,18 @@
 --   AppendsMesh t level b used r a == one of the three
 -- t is the text, b and a are the buffer's content before and after, r is the answer.
 -- Definitions only.
-use Rattle.std.specs.Prelude.{◌≡◌, List, ◌⊎◌, ℕ, ◌+◌, ◌*◌, length}
-use Rattle.element.specs.Refusals.{Codes, no_more, code, ◌then◌, Refused, Accepted}
+use Rattle.std.specs.Prelude.{◌≡◌, List, ◌⊎◌, ℕ, ◌+◌, ◌*◌, length, Result, Ok, Err}
+use Rattle.element.specs.Refusals.{Codes, no_more, code, ◌then◌, Refused as RefusedBy, Accepted}
 use Rattle.block.specs.Faults.{Fault, naming}
 use Rattle.append.specs.Append.{buffer_codes}
 use Rattle.append.specs.Series.{Given, Series}
 use Rattle.mesh_form.specs.Mesh.{Node, Element, Form, Mesh}
 use Rattle.mesh_numbers.specs.Numbers.{Unlisted}
 use Rattle.mesh_elements.specs.Takings.{NotFlat, Takings}
+use Rattle.faults.specs.Refusal.{number_of}
+use Rattle.block.specs.declared.Refused.{Refused}
 use Rattle.mesh.specs.declared.Meshed.{Meshed}
+use Rattle.mesh.specs.declared.Added.{Added}
 
 -- ---- the text
 -- 13: "text not of this form, a node number listed twice, a node or element number beyond u32"
@@ -58,8 +62,12 @@ pub record Said (t : List ℕ) (level : ℕ) (gs : List Given) (p : ℕ) : Type 
 abbrev pub refusal : ℕ → ℕ → Meshed
 refusal c n = record { code = c; number = n; used = 0; appended = 0; passed = 0 }
 
+abbrev pub as_meshed : Result Added Refused → Meshed
+as_meshed (Ok d) = record { code = 0; number = 0; used = d.used; appended = d.appended; passed = d.passed }
+as_meshed (Err e) = refusal (number_of e.refusal) e.number
+
 pub record NotOpened (t b : List ℕ) (used : ℕ) (r : Meshed) (a : List ℕ) : Type 0 where
-  pub refused : Refused (mesh_codes t b used) (record { code = r.code; number = r.number })
+  pub refused : RefusedBy (mesh_codes t b used) (record { code = r.code; number = r.number })
   pub zeros : r ≡ refusal r.code r.number
   pub untouched : a ≡ b
 

@@ -3,12 +3,14 @@
 
 mod fill;
 mod pass;
+mod source;
 mod texts;
 
 ghost use Rattle.std.specs.Prelude.{◌≡◌};
-ghost use Rattle.mesh.specs.Calls.{refusal, AppendsMesh};
+ghost use Rattle.mesh.specs.Calls.{as_meshed, AppendsMesh};
 
-use block::check_block;
+use block::{Refused, check};
+use faults::refusal::Refusal;
 
 // The code, the record number, how many bytes are used, how many elements were appended, and how many were passed over.
 #[derive(Clone, Copy)]
@@ -20,34 +22,52 @@ pub struct Meshed {
     pub passed: u64,
 }
 
-// The answer of a refusal.
-fn refuse(code: u8, number: u32) -> Meshed
-    ensures { result ≡ refusal code number }
+// How many bytes are used, how many elements were appended, and how many were passed over.
+#[derive(Clone, Copy)]
+pub struct Added {
+    pub used: u64,
+    pub appended: u32,
+    pub passed: u64,
+}
+
+// The answer of the call.
+fn answer(done: Result<Added, Refused>) -> Meshed
+    ensures { result ≡ as_meshed done }
 {
-    Meshed {
-        code,
-        number,
-        used: 0,
-        appended: 0,
-        passed: 0,
+    match done {
+        Ok(added) => Meshed {
+            code: 0,
+            number: 0,
+            used: added.used,
+            appended: added.appended,
+            passed: added.passed,
+        },
+        Err(e) => Meshed {
+            code: e.refusal.number(),
+            number: e.number,
+            used: 0,
+            appended: 0,
+            passed: 0,
+        },
     }
+}
+
+// The elements of a Gmsh text, appended to the block in the first `used` bytes of a lent buffer.
+fn append(text: &[u8], limit: u8, buffer: &mut [u8], used: u64) -> Result<Added, Refused>
+    ensures { AppendsMesh text.now limit buffer.old used (as_meshed result) buffer.new }
+{
+    texts::text_code(text)?;
+    let n = used as usize;
+    if buffer.len() < n {
+        return Err(Refused::from(Refusal::Room));
+    }
+    let count = check(&buffer[..n])?;
+    fill::append_all(text, limit, buffer, used, count)
 }
 
 // The elements of a Gmsh text, appended to the block in the first `used` bytes of a lent buffer.
 pub fn append_mesh(text: &[u8], limit: u8, buffer: &mut [u8], used: u64) -> Meshed
     ensures { AppendsMesh text.now limit buffer.old used result buffer.new }
 {
-    let code = texts::text_code(text);
-    if code != 0 {
-        return refuse(code, 0);
-    }
-    let n = used as usize;
-    if buffer.len() < n {
-        return refuse(5, 0);
-    }
-    let c = check_block(&buffer[..n]);
-    if c.code != 0 {
-        return refuse(c.code, c.number);
-    }
-    fill::append_all(text, limit, buffer, used, c.count)
+    answer(append(text, limit, buffer, used))
 }

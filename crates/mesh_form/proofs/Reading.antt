@@ -6,17 +6,19 @@
 use mathlib.Core.Path.{◌≡◌, refl, sym, ap, ◌∙◌}
 use mathlib.Core.Bool.{Bool, true, false, cond}
 use mathlib.Core.List.{List, ◌∷◌, ◌++◌}
-use Prim.Native.Nat.{ℕ, zero, suc, ◌+◌, ◌-◌, ◌≤◌, ◌<◌}
+use Prim.Native.Nat.{ℕ, zero, suc, ◌≤◌, ◌<◌}
 use borrow.Author.Tests.{eqb-true, eqb-false}
 use native.Mathlib.Omega.{arith}
 use lib.Dec.{eqb}
 use lib.ListN.{length, drop, drop_of_length-le}
 use Rattle.mesh_text.proofs.Rows.{rows-nil, by-test}
 use Rattle.mesh_text.specs.Rows.{rows, line, RowAt, RowAfter}
+use Rattle.mesh_form.specs.declared.Kind.{Kind}
+use Rattle.mesh_form.specs.declared.Kind.TheVariants.{Node, Element}
 use Rattle.mesh_form.specs.declared.Part.{Part}
 use Rattle.mesh_form.specs.declared.Cursor.{Cursor}
 use Rattle.mesh_form.specs.Mesh.{Row}
-use Rattle.mesh_form.specs.Walk.{Found, State, outside, before_format, behind_format, before_count, within, passing, bad, step, items_at, items, final, kind_of, items_of, items_from, meaning, Reads}
+use Rattle.mesh_form.specs.Walk.{Found, kind_number, is_node, State, outside, before_format, behind_format, before_count, within, passing, bad, step, items_at, items, final, kind_of, items_of, items_from, meaning, Reads}
 
 pub items_at-is : (s : State) (r : Row) → items_at s r ≡ items_of (kind_of s) r
 unfolding items_at kind_of
@@ -109,13 +111,10 @@ unfolding kind_of
 kind_row k zero e = absurd (e refl)
 kind_row k (suc n) e = refl
 
--- another row has been read: less is left
-pub reads-less : (t : List ℕ) (f g : Found) → f.kind ≡ 3 → f.next.at ≤ length t → Reads 3 t f.next g
-    → length t - g.next.at + g.kind < length t - f.next.at + f.kind
-reads-less t f g e h a =
-    by-test (eqb g.kind 0) (length t - g.next.at + g.kind < length t - f.next.at + f.kind)
-    (λ z. let y = eqb-true g.kind 0 z in omega (arith, a.not_back))
-    (λ z. omega (arith, a.onwards (eqb-false g.kind 0 z), a.inside, a.kinds))
+-- the number of a kind
+pub number_is : (k : Kind) → kind_number k ≡ cond {A = ℕ} (is_node k) 1 2
+number_is Node = refl
+number_is Element = refl
 
 -- where it is no other row, it is one of nodes or elements, or none
 pub reads_two : (t : List ℕ) (c : Cursor) (f : Found) → (f.kind ≡ 3 → ⊥) → Reads 3 t c f → Reads 2 t c f

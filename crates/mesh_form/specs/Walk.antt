@@ -7,6 +7,7 @@
 --   step s r, items_at s r == the state behind the row r, and the row where it is of nodes or elements
 --   kind_of s       == 1 where the next row is of nodes, 2 where it is of elements, else 3
 --   meaning t p, from t c == the state of the code's Part p; the items and the end of the walk from the Cursor c on
+--   is_node k      == the code's Kind is that of nodes
 --   kind_number k, row_number k == the number of the code's Kind; of its kind of any row, 3 where that is another
 --   Found          == a row by the number of its kind, 0 for none, its place, and the cursor behind it
 --   Reads m t c i  == i is what comes at c: a row of the kind i.kind, at most m, and the walk goes on from i.next; kind 0: no row is left
@@ -144,12 +145,16 @@ abbrev pub item_b : Item → Bool
 item_b i = cond i.node (node_b i.row) (element_b i.row)
 
 -- ---- the code's cursors
+abbrev pub is_node : Kind → Bool
+is_node Node = true
+is_node Element = false
+
 unfoldable pub meaning : List ℕ → Part → State
 meaning t (Outside s) = outside s
 meaning t BeforeFormat = before_format
 meaning t BehindFormat = behind_format
-meaning t (BeforeCount k) = before_count k
-meaning t (Within k n) = within k n
+meaning t (BeforeCount k) = before_count (is_node k)
+meaning t (Within k n) = within (is_node k) n
 meaning t (Passing s p) = passing s (name_of (line (drop p t)))
 meaning t Bad = bad
 

@@ -12,8 +12,8 @@ pub enum Part {
     Outside(bool),
     BeforeFormat,
     BehindFormat,
-    BeforeCount(bool),
-    Within(bool, u64),
+    BeforeCount(Kind),
+    Within(Kind, u64),
     Passing(bool, usize),
     Bad,
 }

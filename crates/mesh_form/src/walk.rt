@@ -2,7 +2,7 @@
 ghost use Rattle.std.specs.Prelude.{◌≡◌, cond, true, List, ℕ, eqb, drop};
 ghost use Rattle.mesh_text.specs.Rows.{line, rows};
 ghost use Rattle.mesh_form.specs.Mesh.{Formed};
-ghost use Rattle.mesh_form.specs.Walk.{outside, before_format, behind_format, before_count, within, passing, bad, name_of, named, opened as opened_of, end_b, step as step_of, meaning, kind_of, row_number, kind_number, form_b, done_b, node_b, element_b};
+ghost use Rattle.mesh_form.specs.Walk.{outside, before_format, behind_format, before_count, within, passing, bad, name_of, named, opened as opened_of, end_b, step as step_of, meaning, kind_of, row_number, kind_number, is_node as node_kind, form_b, done_b, node_b, element_b};
 
 use crate::items::Items;
 use crate::rows::{is_element, is_end, is_format, is_mark, is_node};
@@ -11,11 +11,11 @@ use mesh_text::row::{first, from, over, rest};
 use mesh_text::word::{number, same, tail};
 
 // Before a count, where a format has been seen.
-fn counting(seen: bool, nodes: bool) -> Part
-    ensures { (t : List ℕ) → meaning t result ≡ cond seen (before_count nodes) bad }
+fn counting(seen: bool, kind: Kind) -> Part
+    ensures { (t : List ℕ) → meaning t result ≡ cond seen (before_count (node_kind kind)) bad }
 {
     if seen {
-        return Part::BeforeCount(nodes);
+        return Part::BeforeCount(kind);
     }
     Part::Bad
 }
@@ -29,10 +29,10 @@ fn opened(t: &[u8], at: usize, seen: bool) -> Part
         return Part::BeforeFormat;
     }
     if same(name, b"Nodes") {
-        return counting(seen, true);
+        return counting(seen, Kind::Node);
     }
     if same(name, b"Elements") {
-        return counting(seen, false);
+        return counting(seen, Kind::Element);
     }
     Part::Passing(seen, at)
 }
@@ -68,36 +68,36 @@ fn at_format_end(t: &[u8], at: usize) -> Part
 }
 
 // The row of a count.
-fn at_count(t: &[u8], at: usize, nodes: bool) -> Part
-    ensures { meaning t.now result ≡ step_of (before_count nodes) (line (drop at t.now)) }
+fn at_count(t: &[u8], at: usize, kind: Kind) -> Part
+    ensures { meaning t.now result ≡ step_of (before_count (node_kind kind)) (line (drop at t.now)) }
 {
     let r = from(t, at);
     let n = number(first(r));
     let alone = over(rest(r));
     if alone & (n < 4294967296) {
-        return Part::Within(nodes, n);
+        return Part::Within(kind, n);
     }
     Part::Bad
 }
 
 // Whether a row ends the nodes, or the elements.
-fn is_close(t: &[u8], nodes: bool) -> bool
-    ensures { result ≡ end_b (named nodes) (line t.now) }
+fn is_close(t: &[u8], kind: Kind) -> bool
+    ensures { result ≡ end_b (named (node_kind kind)) (line t.now) }
 {
-    if nodes {
-        return is_end(t, b"Nodes");
+    match kind {
+        Kind::Node => is_end(t, b"Nodes"),
+        Kind::Element => is_end(t, b"Elements"),
     }
-    is_end(t, b"Elements")
 }
 
 // A row of nodes or of elements, n of which are left, or their end.
-fn at_row(t: &[u8], at: usize, nodes: bool, n: u64) -> Part
-    ensures { meaning t.now result ≡ step_of (within nodes n) (line (drop at t.now)) }
+fn at_row(t: &[u8], at: usize, kind: Kind, n: u64) -> Part
+    ensures { meaning t.now result ≡ step_of (within (node_kind kind) n) (line (drop at t.now)) }
 {
     if 0 < n {
-        return Part::Within(nodes, n - 1);
+        return Part::Within(kind, n - 1);
     }
-    if is_close(from(t, at), nodes) {
+    if is_close(from(t, at), kind) {
         return Part::Outside(true);
     }
     Part::Bad
@@ -122,24 +122,21 @@ pub(crate) fn step(t: &[u8], at: usize, part: Part) -> Part
         Part::Outside(seen) => at_mark(t, at, seen),
         Part::BeforeFormat => at_format(t, at),
         Part::BehindFormat => at_format_end(t, at),
-        Part::BeforeCount(nodes) => at_count(t, at, nodes),
-        Part::Within(nodes, n) => at_row(t, at, nodes, n),
+        Part::BeforeCount(kind) => at_count(t, at, kind),
+        Part::Within(kind, n) => at_row(t, at, kind, n),
         Part::Passing(seen, p) => at_passed(t, at, seen, p),
         Part::Bad => Part::Bad,
     }
 }
 
 // The kind of the next row within a section.
-fn row_kind(nodes: bool, n: u64) -> Option<Kind>
-    ensures { row_number result ≡ kind_of (within nodes n) }
+fn row_kind(kind: Kind, n: u64) -> Option<Kind>
+    ensures { row_number result ≡ kind_of (within (node_kind kind) n) }
 {
     if n == 0 {
         return None;
     }
-    if nodes {
-        return Some(Kind::Node);
-    }
-    Some(Kind::Element)
+    Some(kind)
 }
 
 // The kind of the next row, where it is of nodes or elements.
@@ -147,7 +144,7 @@ pub(crate) fn kind_of(part: Part) -> Option<Kind>
     ensures { (t : List ℕ) → row_number result ≡ kind_of (meaning t part) }
 {
     match part {
-        Part::Within(nodes, n) => row_kind(nodes, n),
+        Part::Within(kind, n) => row_kind(kind, n),
         _ => None,
     }
 }

@@ -1,11 +1,8 @@
 -- `mesh::pass::gather` meets its contract: the loop keeps what was taken and passed over so far.
-use Prim.Native.Nat.{◌+◌, ◌*◌, ◌-◌}
-use lib.ListN.{length}
+use mathlib.Core.Path.{◌≡◌}
 use Rattle.mesh.proofs.Gathers.{Keeps}
 use Rattle.mesh.proofs.pass.gather.Given as goal
 
-abbrev pub invariant-loop-f : goal.invariant-loop-f
-invariant-loop-f l = Keeps l.limit l.t l.initial.s l.initial.out l.s l.out l.f
-
-abbrev pub decreases-loop-f : goal.decreases-loop-f
-decreases-loop-f l = 2 * (length l.t - l.f.next.at) + l.f.kind
+abbrev pub invariant-loop-item : goal.invariant-loop-item
+invariant-loop-item l =
+    (l.item-iterator.t.now ≡ l.fn.m.t.now) × Keeps l.fn.m.limit l.fn.m.t.now l.initial.s l.initial.out l.s l.out l.item-iterator.c

@@ -17,9 +17,6 @@ use Rattle.mesh_elements.specs.Rows.{coord_of}
 use Rattle.mesh.proofs.Takes.{row-moves}
 use Rattle.mesh.proofs.pass.take_ours.Goals as goal
 
-size_is : {m k j : ℕ} → m ≡ size_of_type k → k ≡ j → m ≡ size_of_type j
-size_is e f = e ∙ ap size_of_type f
-
 same-given : {i j k m l : ℕ} {xs ys : List ℤ} → i ≡ j → k ≡ m → xs ≡ ys
     → ◌≡◌ {A = Given} (record { id = i; kind = k; limit = l; coords = xs }) (record { id = j; kind = m; limit = l; coords = ys })
 same-given {i} {j} {k} {m} {l} {xs} {ys} a b c =
@@ -39,26 +36,25 @@ module _ (k m : ℕ) (f : ℕ → ℤ) (l : List ℤ) (s : m ≡ size_of_type k)
   long = omega (arith, front_length, length-take (2 * m) l)
 
 pub overflow_mul-n : goal.overflow_mul-n
-overflow_mul-n c = let h = size_small c.type_at.result in record { fits = omega (arith, c.size_of-size.ensures) }
+overflow_mul-n c = let h = size_small (type_of (line (drop c.args.at c.args.m.t.now))) in record { fits = omega (arith, c.requires.sized) }
 
 pub overflow_cast-size : goal.overflow_cast-size
-overflow_cast-size c = record { fits = omega (arith, c.size_of-size.ensures, size_small c.type_at.result) }
-
-pub slice_bounds-xs-end : goal.slice_bounds-xs-end
-slice_bounds-xs-end c = long _ _ _ _ (size_is c.size_of-size.ensures c.type_at.ensures) c.coords_at-xs.ensures
+overflow_cast-size c = let h = size_small (type_of (line (drop c.args.at c.args.m.t.now))) in record { fits = omega (arith, c.requires.sized) }
 
 pub slice_bounds-take-end : goal.slice_bounds-take-end
-slice_bounds-take-end c = sym (front_length _ _ _ _ (size_is c.size_of-size.ensures c.type_at.ensures) c.coords_at-xs.ensures)
+slice_bounds-take-end c = sym (front_length _ _ _ _ c.requires.sized c.coords_at-xs.ensures)
+
+pub slice_bounds-xs-end : goal.slice_bounds-xs-end
+slice_bounds-xs-end c = long _ _ _ _ c.requires.sized c.coords_at-xs.ensures
 
 pub returns : goal.returns
 returns c =
     let a = c.args in
-    let rs = nodes_in a.t.now in
-    let r = line (drop a.at a.t.now) in
-    let n = c.size_of-size.result in
+    let rs = nodes_in a.m.t.now in
+    let r = line (drop a.at a.m.t.now) in
+    let n = a.size in
     let xs = c.coords_at-xs.result in
-    let s = size_is c.size_of-size.ensures c.type_at.ensures in
-    let q : Given = record { id = c.id_at-id.result; kind = n; limit = a.limit; coords = take (2 * n) xs } in
-    row-moves a.limit rs r q
-    (same-given c.id_at-id.ensures s
-    (front-is (type_of r) n (coord_of (clipped 4294967295) rs r) xs s c.coords_at-xs.ensures)) c.take.ensures
+    let q : Given = record { id = c.id_at-id.result; kind = n; limit = a.m.limit; coords = take (2 * n) xs } in
+    row-moves a.s a.out.now _ c.take.result a.m.limit rs r q
+    (same-given c.id_at-id.ensures c.requires.sized
+    (front-is (type_of r) n (coord_of (clipped 4294967295) rs r) xs c.requires.sized c.coords_at-xs.ensures)) c.take.ensures

@@ -1,26 +1,31 @@
 -- `mesh::pass::take_row` meets its contract, by the kind and the type.
 use mathlib.Core.Path.{sym, ap, ◌∙◌}
+use native.Mathlib.Omega.{arith}
 use lib.ListN.{drop}
 use Rattle.mesh_text.specs.Rows.{line}
+use Rattle.mesh_form.specs.Walk.{kind_number}
 use Rattle.mesh_form.specs.Values.{size_of_type}
 use Rattle.mesh_nodes.specs.Nodes.{nodes_in}
 use Rattle.batch.proofs.Tallies.{moved_none, moved-passed}
 use Rattle.mesh.proofs.Gathers.{row_other, row-passed, row-taken}
 use Rattle.mesh.proofs.pass.take_row.Goals as goal
 
-pub returns-then-kind-ne2 : goal.returns-then-kind-ne2
-returns-then-kind-ne2 c =
-    row_other c.args.limit (nodes_in c.args.t.now) (line (drop c.args.at c.args.t.now)) c.args.s c.args.s _ _ c.args.kind c.if-kind-ne2.true
-    (moved_none c.args.s _ c.requires.clean)
+pub returns-in-Node : goal.returns-in-Node
+returns-in-Node c =
+    let a = c.args in
+    row_other a.m.limit (nodes_in a.m.t.now) (line (drop a.item.at a.m.t.now)) a.s _ _ a.s _
+    (λ e. absurd (omega (arith, e, ap kind_number c.in-Node.is))) (moved_none a.s _)
 
-pub returns-then-size-eq0 : goal.returns-then-size-eq0
-returns-then-size-eq0 c =
-    row-passed c.args.limit (nodes_in c.args.t.now) (line (drop c.args.at c.args.t.now)) c.args.s c.one_passed.result _ _ c.args.kind c.if-kind-ne2.false
-    (sym (ap size_of_type c.type_at.ensures) ∙ sym c.size_of-size.ensures ∙ c.if-size-eq0.true)
-    (moved-passed c.args.s c.one_passed.result _ c.requires.clean c.one_passed.ensures)
+pub returns-in-None : goal.returns-in-None
+returns-in-None c =
+    let a = c.args in
+    row-passed a.m.limit (nodes_in a.m.t.now) (line (drop a.item.at a.m.t.now)) a.s _ _ c.one_passed.result _
+    (ap kind_number c.in-Element.is) (sym (c.in-None.ensures.size ∙ ap size_of_type c.type_at.ensures))
+    (moved-passed a.s c.one_passed.result _ c.one_passed.ensures)
 
-pub returns : goal.returns
-returns c =
-    let e = c.size_of-size.ensures ∙ ap size_of_type c.type_at.ensures in
-    row-taken c.args.limit (nodes_in c.args.t.now) (line (drop c.args.at c.args.t.now)) c.args.s c.take_ours.result _ _ c.args.kind
-    c.if-kind-ne2.false (λ z. c.if-size-eq0.false (e ∙ z)) c.take_ours.ensures
+pub returns-in-Some : goal.returns-in-Some
+returns-in-Some c =
+    let a = c.args in
+    let e = c.in-Some.ensures.size ∙ ap size_of_type c.type_at.ensures in
+    row-taken a.m.limit (nodes_in a.m.t.now) (line (drop a.item.at a.m.t.now)) a.s _ _ c.take_ours.result _
+    (ap kind_number c.in-Element.is) (λ z. absurd (omega (arith, e, z, c.in-Some.ensures.ours))) c.take_ours.ensures

@@ -6,7 +6,7 @@ use lib.ListN.{drop}
 use lib.Dec.{ltb}
 use mathlib.Core.Bool.{cond, ◌&&◌}
 use mathlib.Core.Path.{sym, ap, ◌∙◌}
-use Rattle.mesh_form.specs.Walk.{step, meaning}
+use Rattle.mesh_form.specs.Walk.{step, meaning, is_node}
 use Rattle.mesh_form.proofs.walk.at_count.Goals as goal
 
 pub returns-then-alone-n : goal.returns-then-alone-n
@@ -17,8 +17,8 @@ returns-then-alone-n c =
     let f = c.from-r.ensures in
     let n = c.number-n.ensures ∙ ap number_of (c.first.ensures ∙ ap (λ l. first (line l)) f) in
     let o = c.over-alone.ensures ∙ ap is_nil (c.rest.ensures.0 ∙ ap (λ l. rest (line l)) f) in
-    ap (within a.nodes) n
-    ∙ sym (ap (λ b. cond b (within a.nodes (number_of (first (line d)))) bad)
+    ap (within (is_node a.kind)) n
+    ∙ sym (ap (λ b. cond b (within (is_node a.kind) (number_of (first (line d)))) bad)
     (sym (ap (λ b. b && ltb c.number-n.result 4294967296) o ∙ ap (λ m. is_nil (rest (line d)) && ltb m 4294967296) n) ∙ c.if-alone-n.true))
 
 pub returns : goal.returns
@@ -29,5 +29,5 @@ returns c =
     let f = c.from-r.ensures in
     let n = c.number-n.ensures ∙ ap number_of (c.first.ensures ∙ ap (λ l. first (line l)) f) in
     let o = c.over-alone.ensures ∙ ap is_nil (c.rest.ensures.0 ∙ ap (λ l. rest (line l)) f) in
-    sym (ap (λ b. cond b (within a.nodes (number_of (first (line d)))) bad)
+    sym (ap (λ b. cond b (within (is_node a.kind) (number_of (first (line d)))) bad)
     (sym (ap (λ b. b && ltb c.number-n.result 4294967296) o ∙ ap (λ m. is_nil (rest (line d)) && ltb m 4294967296) n) ∙ c.if-alone-n.false))
