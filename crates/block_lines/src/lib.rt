@@ -1,12 +1,12 @@
-// The calls `check`, `fetch`, `walk` and `start`. A block or a buffer stands in the line as hex.
+// The calls `check`, `fetch`, `walk` and `start`. A block or a buffer stands in the line as hex. Each is asked what stands behind its name;
+// none where that is no call.
 #![tactic(auto)]
 
 use append::start_block;
 use block::{Fetched, check_block, fetch_record};
-use pieces::{block_and_record, buffer, coordinates, last_word, naturals, unknown};
+use pieces::{block_and_record, buffer, coordinates, last_word, naturals};
 use reader::{begin_at, step_at};
 use record::Record;
-use text::read::{is_word, next, number};
 use text::write;
 
 // Calls `check_block`, and writes `code record count`.
@@ -32,8 +32,7 @@ fn fetched(out: &mut [u8], at: usize, told: Fetched) -> usize {
             told.level as u64,
         ],
     );
-    let coords = told.coords;
-    coordinates(out, head, &coords)
+    coordinates(out, head, &told.coords)
 }
 
 // Calls `fetch_record`, and writes its answer.
@@ -44,14 +43,10 @@ fn fetch_answer(bytes: &[u8], k: u32, out: &mut [u8]) -> usize {
 }
 
 // `fetch HEX k`: `code record id kind limit signed level` and 18 numbers.
-pub fn fetch_line(line: &[u8], at: usize, out: &mut [u8]) -> usize {
+pub fn fetch_line(line: &[u8], out: &mut [u8]) -> Option<usize> {
     let mut bytes = [0u8; 65536];
-    let asked = block_and_record(line, at, &mut bytes);
-    if !asked.ok {
-        return unknown(out);
-    }
-    let n = asked.size;
-    fetch_answer(&bytes[..n], asked.k, out)
+    let asked = block_and_record(line, &mut bytes)?;
+    Some(fetch_answer(&bytes[..asked.size], asked.k, out))
 }
 
 // Calls `start_block`, and writes `code used HEX` of the buffer afterwards.
@@ -86,17 +81,13 @@ fn found(out: &mut [u8], at: usize, r: Record) -> usize {
 fn steps(bytes: &[u8], from: usize, out: &mut [u8], start: usize) -> usize {
     let mut at = from;
     let mut end = start;
-    let mut turns: u32 = 0;
-    while turns < 65536 {
+    for _turn in 0..65536 {
         let step = step_at(bytes, at);
-        let next = step.next;
-        if next.over {
+        if step.next.over {
             return write::word(out, end, b" / end\n");
         }
-        let r = next.found;
-        end = found(out, end, r);
+        end = found(out, end, step.next.found);
         at = step.at;
-        turns += 1;
     }
     end
 }
@@ -110,26 +101,30 @@ fn walk_answer(bytes: &[u8], out: &mut [u8]) -> usize {
     steps(bytes, begun.at, out, head)
 }
 
-// The call on one block that the line's first word names: `check`, `walk` or `start`.
-fn block_answer(line: &[u8], end: usize, bytes: &mut [u8], out: &mut [u8]) -> usize {
-    if is_word(line, 0, end, b"check") {
-        return check_answer(bytes, out);
-    }
-    if is_word(line, 0, end, b"walk") {
-        return walk_answer(bytes, out);
-    }
-    if is_word(line, 0, end, b"start") {
-        return start_answer(bytes, out);
-    }
-    unknown(out)
+// A call on one block, which is the only word of the line.
+fn block_line<F: Fn(&mut [u8], &mut [u8]) -> usize>(
+    line: &[u8],
+    out: &mut [u8],
+    answer: F,
+) -> Option<usize>
+    requires { F.IsAlwaysCallable answer }
+{
+    let mut bytes = [0u8; 65536];
+    let n = last_word(line, &mut bytes)?;
+    Some(answer(&mut bytes[..n], out))
 }
 
-// `check HEX`, `walk HEX`, `start HEX`: the first word ends here, and the bytes are the last one.
-pub fn block_line(line: &[u8], end: usize, out: &mut [u8]) -> usize {
-    let mut bytes = [0u8; 65536];
-    let n = last_word(line, next(line, end), &mut bytes);
-    if 65536 < n {
-        return unknown(out);
-    }
-    block_answer(line, end, &mut bytes[..n], out)
+// `check HEX`: `code record count`.
+pub fn check_line(line: &[u8], out: &mut [u8]) -> Option<usize> {
+    block_line(line, out, |bytes, answer| check_answer(bytes, answer))
+}
+
+// `walk HEX`: `code record`, and each record as `fetch` writes it.
+pub fn walk_line(line: &[u8], out: &mut [u8]) -> Option<usize> {
+    block_line(line, out, |bytes, answer| walk_answer(bytes, answer))
+}
+
+// `start HEX`: `code used HEX` of the buffer afterwards.
+pub fn start_line(line: &[u8], out: &mut [u8]) -> Option<usize> {
+    block_line(line, out, start_answer)
 }

@@ -1,65 +1,49 @@
 // Which call a line is.
-use text::read::{is_word, next, word_end};
+use append_lines::append_line;
+use block_lines::{check_line, fetch_line, start_line, walk_line};
+use element_lines::{bounds_line, control_line, floor_line, verdict_line};
+use list_lines::list_line;
+use mend_lines::{mend_line, straighten_line};
+use mesh_lines::mesh_line;
+use sheet_lines::{checksheet_line, sheet_line};
+use sign_lines::{convert_line, sign_line};
+use solver_lines::{scale_line, unscale_line};
+use text::read::first_word;
+use text::write;
+use text_lines::text_line;
 
-// The answer to a line, with its end of line; `?` to a line that is no call. The calls on one element stand here.
-pub fn answer(line: &[u8], out: &mut [u8]) -> usize {
-    let end = word_end(line, 0);
-    let at = next(line, end);
-    if is_word(line, 0, end, b"control") {
-        return element_lines::control_line(line, at, out);
+// The call that the first word of a line names, of what stands behind it.
+fn call(line: &[u8], out: &mut [u8]) -> Option<usize> {
+    let (name, asked) = first_word(line);
+    match name {
+        b"control" => control_line(asked, out),
+        b"bounds" => bounds_line(asked, out),
+        b"verdict" => verdict_line(asked, out),
+        b"floor" => floor_line(asked, out),
+        b"sheet" => sheet_line(asked, out),
+        b"checksheet" => checksheet_line(asked, out),
+        b"straighten" => straighten_line(asked, out),
+        b"scale" => scale_line(asked, out),
+        b"unscale" => unscale_line(asked, out),
+        b"check" => check_line(asked, out),
+        b"walk" => walk_line(asked, out),
+        b"start" => start_line(asked, out),
+        b"fetch" => fetch_line(asked, out),
+        b"append" => append_line(asked, out),
+        b"mesh" => mesh_line(asked, out),
+        b"text" => text_line(asked, out),
+        b"sign" => sign_line(asked, out),
+        b"convert" => convert_line(asked, out),
+        b"mend" => mend_line(asked, out),
+        b"list" => list_line(asked, out),
+        _ => None,
     }
-    if is_word(line, 0, end, b"bounds") {
-        return element_lines::bounds_line(line, at, out);
-    }
-    if is_word(line, 0, end, b"verdict") {
-        return element_lines::verdict_line(line, at, out);
-    }
-    if is_word(line, 0, end, b"floor") {
-        return element_lines::floor_line(line, at, out);
-    }
-    if is_word(line, 0, end, b"sheet") {
-        return sheet_lines::sheet_line(line, at, out);
-    }
-    if is_word(line, 0, end, b"checksheet") {
-        return sheet_lines::checksheet_line(line, at, out);
-    }
-    if is_word(line, 0, end, b"straighten") {
-        return mend_lines::straighten_line(line, at, out);
-    }
-    if is_word(line, 0, end, b"scale") {
-        return solver_lines::scale_line(line, at, out);
-    }
-    if is_word(line, 0, end, b"unscale") {
-        return solver_lines::unscale_line(line, at, out);
-    }
-    block_answer(line, end, at, out)
 }
 
-// The calls on a block: what is no other of them holds one block, or is none.
-fn block_answer(line: &[u8], end: usize, at: usize, out: &mut [u8]) -> usize {
-    if is_word(line, 0, end, b"fetch") {
-        return block_lines::fetch_line(line, at, out);
+// The answer to a line, with its end of line; `?` to a line that is no call.
+pub fn answer(line: &[u8], out: &mut [u8]) -> usize {
+    match call(line, out) {
+        Some(end) => end,
+        None => write::word(out, 0, b"?\n"),
     }
-    if is_word(line, 0, end, b"append") {
-        return append_lines::append_line(line, at, out);
-    }
-    if is_word(line, 0, end, b"mesh") {
-        return mesh_lines::mesh_line(line, at, out);
-    }
-    if is_word(line, 0, end, b"text") {
-        return text_lines::text_line(line, at, out);
-    }
-    if is_word(line, 0, end, b"sign") {
-        return sign_lines::sign_line(line, at, out);
-    }
-    if is_word(line, 0, end, b"convert") {
-        return sign_lines::convert_line(line, at, out);
-    }
-    if is_word(line, 0, end, b"mend") {
-        return mend_lines::mend_line(line, at, out);
-    }
-    if is_word(line, 0, end, b"list") {
-        return list_lines::list_line(line, at, out);
-    }
-    block_lines::block_line(line, end, out)
 }

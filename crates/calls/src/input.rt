@@ -1,33 +1,16 @@
 // Standard input line by line, as it comes: each line is answered when it is complete.
-ghost use Rattle.std.specs.Prelude.{◌+◌, ◌≤◌, length, IfOk};
+ghost use Rattle.std.specs.Prelude.{◌≤◌, length, IfOk, IfSome};
 
 use crate::answers::answer;
 use std::io;
 use std::io::{Print, Read};
-use text::read::line_end;
 
-// What of the buffer is filled and not yet answered, whether it is the end of a line that was too long, and whether to go on.
+// What of the buffer is filled and not yet answered, and whether it is the end of a line that was too long.
 #[derive(Clone, Copy)]
 struct State {
     from: usize,
     have: usize,
     long: bool,
-    more: bool,
-}
-
-// Moves what is left to the front, and answers how much that is.
-fn shift(line: &mut [u8], from: usize, have: usize) -> usize
-    requires { have ≤ length line.old }
-    ensures { result ≤ length line.old }
-{
-    let mut to = 0;
-    let mut at = from;
-    while at < have {
-        line[to] = line[at];
-        to += 1;
-        at += 1;
-    }
-    to
 }
 
 // Answers one line, and answers itself whether that was written.
@@ -52,69 +35,64 @@ fn last<P: Print>(to: &P, line: &[u8], long: bool, out: &mut [u8]) -> io::Result
     Ok(())
 }
 
-// Reads once, behind the first bytes of the buffer, and answers how many came.
-fn fill<R: Read>(input: &mut R, line: &mut [u8], kept: usize) -> usize
-    requires { kept ≤ length line.old }
-    ensures { kept + result ≤ length line.old }
+// Moves what is left to the front, and reads once behind it. None where nothing came: that was the last line.
+fn more<R: Read, P: Print>(
+    input: &mut R,
+    to: &P,
+    line: &mut [u8],
+    s: State,
+    out: &mut [u8],
+) -> io::Result<Option<State>>
+    requires { (s.from ≤ s.have) × (s.have ≤ length line.old) }
+    ensures { IfOk result (λ t. IfSome t (λ u. (u.from ≤ u.have) × (u.have ≤ length line.old))) }
 {
-    match input.read(&mut line[kept..]) {
-        Ok(got) => got,
-        Err(_error) => 0,
+    let kept = s.have - s.from;
+    if kept == line.len() {
+        return Ok(Some(State {
+            from: 0,
+            have: 0,
+            long: true,
+        }));
     }
+    line.copy_within(s.from..s.have, 0);
+    let got = input.read(&mut line[kept..]).unwrap_or(0);
+    if got == 0 {
+        last(to, &line[..kept], s.long, out)?;
+        return Ok(None);
+    }
+    Ok(Some(State {
+        from: 0,
+        have: kept + got,
+        long: s.long,
+    }))
 }
 
-// One step: a line that is there is answered; else more is read.
+// One step: a line that is there is answered; else more is read. None where there are no more.
 fn step<R: Read, P: Print>(
     input: &mut R,
     to: &P,
     line: &mut [u8],
     s: State,
     out: &mut [u8],
-) -> io::Result<State>
-    requires { s.have ≤ length line.old }
-    ensures { IfOk result (λ t. t.have ≤ length line.old) }
+) -> io::Result<Option<State>>
+    requires { (s.from ≤ s.have) × (s.have ≤ length line.old) }
+    ensures { IfOk result (λ t. IfSome t (λ u. (u.from ≤ u.have) × (u.have ≤ length line.old))) }
 {
-    let from = s.from;
-    let have = s.have;
-    let end = line_end(line, from, have);
-    if end < have {
-        let more = reply(to, &line[from..end], s.long, out)?;
-        return Ok(State {
-            from: end + 1,
-            have,
+    let left = &line[s.from..s.have];
+    let Some(end) = left.iter().position(|b| *b == b'\n') else {
+        return more(input, to, line, s, out);
+    };
+    if reply(to, &left[..end], s.long, out)? {
+        return Ok(Some(State {
+            from: s.from + end + 1,
+            have: s.have,
             long: false,
-            more,
-        });
+        }));
     }
-    let kept = shift(line, from, have);
-    if kept == line.len() {
-        return Ok(State {
-            from: 0,
-            have: 0,
-            long: true,
-            more: true,
-        });
-    }
-    let got = fill(input, line, kept);
-    if got == 0 {
-        last(to, &line[..kept], s.long, out)?;
-        return Ok(State {
-            from: 0,
-            have: 0,
-            long: false,
-            more: false,
-        });
-    }
-    Ok(State {
-        from: 0,
-        have: kept + got,
-        long: s.long,
-        more: true,
-    })
+    Ok(None)
 }
 
-// A proved loop has to end, and nothing says that the input does. So the loop counts its turns down, from a number that no run
-// uses up.
+// A proved loop has to end, and nothing says that the input does. So the loop counts its turns, up to a number that no run uses up.
 pub fn run<R: Read, P: Print>(
     input: &mut R,
     to: &P,
@@ -125,15 +103,12 @@ pub fn run<R: Read, P: Print>(
         from: 0,
         have: 0,
         long: false,
-        more: true,
     };
-    let mut turns = u64::MAX;
-    while turns > 0 {
-        s = step(input, to, line, s, out)?;
-        if !s.more {
-            return Ok(());
+    for _turn in 0..u64::MAX {
+        match step(input, to, line, s, out)? {
+            Some(next) => s = next,
+            None => return Ok(()),
         }
-        turns -= 1;
     }
     Ok(())
 }

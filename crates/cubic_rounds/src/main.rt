@@ -4,7 +4,8 @@
 
 use endian::get_u32;
 use std::io;
-use streams::input::fill;
+use streams::input::filled;
+use streams::turns::turns;
 use ten_records::{coords, count};
 
 // The cells of record k; 0 where there is none.
@@ -21,34 +22,10 @@ fn cells(bytes: &[u8], k: u32) -> u32 {
     v.cells
 }
 
-// The most cells of a record, and at least `least`.
-fn round(bytes: &[u8], records: u32, least: u32) -> u32 {
-    let mut most = least;
-    let mut k = 0;
-    while k < records {
-        let n = cells(bytes, k);
-        if most < n {
-            most = n;
-        }
-        k += 1;
-    }
-    most
-}
-
-fn rounds(bytes: &[u8]) -> u32 {
-    let records = count(bytes);
-    let mut most = 0;
-    let mut turn: u32 = 0;
-    while turn < 64 {
-        most = round(bytes, records, most);
-        turn += 1;
-    }
-    most
-}
-
 fn main(rt: HostRuntime) -> io::Result<()> {
     let mut bytes = [0u8; 67200];
-    let read = fill(&mut rt.stdin(), &mut bytes, 0);
-    let most = rounds(&bytes[..read.have]);
+    let n = filled(&mut rt.stdin(), &mut bytes);
+    let records = &bytes[..n];
+    let most = turns(count(records), |most, k| most.max(cells(records, k)));
     println!(rt; "{most}")
 }

@@ -1,10 +1,10 @@
-// The calls on one element: `control`, `bounds`, `verdict`, `floor`.
+// The calls on one element: `control`, `bounds`, `verdict`, `floor`. Each is asked what stands behind its name; none where that is no call.
 #![tactic(auto)]
 
 use control::Bounded;
 use floor::{Profile, verdict_by};
-use pieces::{element, integers, naturals, room_and_kind, unknown};
-use text::read::{number, numbers, up_to};
+use pieces::{element, integers, naturals, room_and_kind};
+use text::read::{byte, first_word, numbers};
 use text::write;
 use verdict::{Judged, Word};
 
@@ -19,27 +19,18 @@ fn control_answer(kind: u8, coords: &[i32], values: &mut [i64], out: &mut [u8]) 
 }
 
 // `control ROOM KIND x y ..`: `code n v1 .. vn`.
-pub fn control_line(line: &[u8], at: usize, out: &mut [u8]) -> usize {
-    let asked = room_and_kind(line, at);
+pub fn control_line(line: &[u8], out: &mut [u8]) -> Option<usize> {
+    let asked = room_and_kind(line)?;
     let mut coords = [0; 64];
-    let n = numbers(line, asked.next, &mut coords);
-    if !asked.ok {
-        return unknown(out);
-    }
-    if 64 < n {
-        return unknown(out);
-    }
-    let room = asked.room;
+    let n = numbers(asked.rest, &mut coords)?;
     let mut values = [0; 64];
-    control_answer(asked.kind, &coords[..n], &mut values[..room], out)
+    Some(control_answer(asked.kind, &coords[..n], &mut values[..asked.room], out))
 }
 
 // A float that is a whole number, as a number.
 fn whole(x: f64) -> i64 {
-    if x >= -9223372036854775808.0 {
-        if x < 9223372036854775808.0 {
-            return std::num::truncating_f64_to_i64(x);
-        }
+    if x >= -9223372036854775808.0 && x < 9223372036854775808.0 {
+        return std::num::truncating_f64_to_i64(x);
     }
     0
 }
@@ -60,18 +51,11 @@ fn bounds_answer(kind: u8, coords: &[i32], out: &mut [u8]) -> usize {
 }
 
 // `bounds KIND x y ..`: `code lo hi`.
-pub fn bounds_line(line: &[u8], at: usize, out: &mut [u8]) -> usize {
-    let kind = number(line, at);
+pub fn bounds_line(line: &[u8], out: &mut [u8]) -> Option<usize> {
+    let (kind, rest) = first_word(line);
     let mut coords = [0; 64];
-    let n = numbers(line, kind.next, &mut coords);
-    let k = up_to(kind, 255);
-    if 255 < k {
-        return unknown(out);
-    }
-    if 64 < n {
-        return unknown(out);
-    }
-    bounds_answer(k as u8, &coords[..n], out)
+    let n = numbers(rest, &mut coords)?;
+    Some(bounds_answer(byte(kind)?, &coords[..n], out))
 }
 
 // The code, and the name of the verdict.
@@ -83,41 +67,32 @@ fn named(out: &mut [u8], code: u8, word: Word) -> usize {
 
 // Writes the code, the verdict, the level, i, j, the value and the cells.
 fn judged(told: Judged, out: &mut [u8]) -> usize {
-    let value = told.value;
-    let word = told.word;
-    let head = named(out, told.code, word);
+    let head = named(out, told.code, told.word);
     let point = naturals(
         out,
         head,
         &[told.level as u64, told.i as u64, told.j as u64],
     );
-    let shown = integers(out, point, &[value]);
+    let shown = integers(out, point, &[told.value]);
     let end = naturals(out, shown, &[told.cells as u64]);
     write::put(out, end, 10)
 }
 
 // Calls the verdict of a profile with `KIND LIMIT x y ..`.
-fn judged_line(line: &[u8], at: usize, out: &mut [u8], by: Profile) -> usize {
+fn judged_line(line: &[u8], out: &mut [u8], by: Profile) -> Option<usize> {
     let mut coords = [0; 64];
-    let asked = element(line, at, &mut coords);
-    if !asked.ok {
-        return unknown(out);
-    }
-    let n = asked.count;
-    judged(verdict_by(by, asked.kind, asked.limit, &coords[..n]), out)
+    let asked = element(line, &mut coords)?;
+    let told = verdict_by(by, asked.kind, asked.limit, &coords[..asked.count]);
+    Some(judged(told, out))
 }
 
 // `verdict KIND LIMIT x y ..`: `code verdict level i j value cells`.
-pub fn verdict_line(line: &[u8], at: usize, out: &mut [u8]) -> usize {
-    judged_line(line, at, out, Profile::Plain)
+pub fn verdict_line(line: &[u8], out: &mut [u8]) -> Option<usize> {
+    judged_line(line, out, Profile::Plain)
 }
 
 // `floor P KIND LIMIT x y ..`: the same.
-pub fn floor_line(line: &[u8], at: usize, out: &mut [u8]) -> usize {
-    let percent = number(line, at);
-    let p = up_to(percent, 255);
-    if 255 < p {
-        return unknown(out);
-    }
-    judged_line(line, percent.next, out, Profile::Floor(p as u8))
+pub fn floor_line(line: &[u8], out: &mut [u8]) -> Option<usize> {
+    let (percent, rest) = first_word(line);
+    judged_line(rest, out, Profile::Floor(byte(percent)?))
 }

@@ -2,4 +2,3 @@ pub mod Numbers
 pub mod Complement
 pub mod Places
 pub mod Writes
-pub mod Machine

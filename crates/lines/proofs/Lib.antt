@@ -1,2 +1,3 @@
--- How long lines are.
+-- How long lines are, and numbers with a space before each.
 pub mod Lengths
+pub mod Spaced

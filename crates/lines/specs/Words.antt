@@ -3,6 +3,7 @@
 --   spelt p            == the text of a piece
 --   line ps            == the pieces, one space before each but the first, and the line's end
 --   first_line v n      == "First line: mark, version, count"
+--   spaced ns          == numbers, one space before each
 --   ending s           == what follows the numbers of a line: `signed` where a record is signed by the first byte s (02, Ask 4)
 --   verdict_line        == "Then id, kind, verdict, level, i, j, cells", and the ending
 --   refused_line c k    == "A refused block prints only `refused`, code, record number, on one line"
@@ -23,6 +24,10 @@ spelt (number n) = decimal n
 abbrev pub after : List Piece → List ℕ
 after [] = 10 ∷ []
 after (p ∷ ps) = 32 ∷ (spelt p ++ after ps)
+
+abbrev pub spaced : List ℕ → List ℕ
+spaced [] = []
+spaced (n ∷ ns) = 32 ∷ (decimal n ++ spaced ns)
 
 abbrev pub line : Piece → List Piece → List ℕ
 line p ps = spelt p ++ after ps

@@ -10,19 +10,19 @@ mod input;
 use std::env::Env;
 use std::io;
 use std::io::Print;
-use text::read::{number, up_to};
+use text::read::{byte, first_word};
 
-// The level limit; 256 where none is given.
-fn level_limit<E: Env>(env: &E) -> u64 {
+// The level limit, if one is given.
+fn level_limit<E: Env>(env: &E) -> Option<u8> {
     let mut word = [0u8; 16];
     let n = env.arg(1, &mut word).unwrap_or(0);
-    up_to(number(&word[..n], 0), 255)
+    let (limit, _behind) = first_word(&word[..n]);
+    byte(limit)
 }
 
 fn main(rt: HostRuntime) -> io::Result<()> {
-    let limit = level_limit(&rt);
-    if 255 < limit {
-        return rt.write_all(b"limit\n");
+    match level_limit(&rt) {
+        Some(limit) => input::read_in(&mut rt.stdin(), &rt, b"", 2, limit),
+        None => rt.write_all(b"limit\n"),
     }
-    input::read_in(&mut rt.stdin(), &rt, b"", 2, limit as u8)
 }

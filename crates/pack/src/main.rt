@@ -7,18 +7,15 @@ mod answer;
 
 use std::io;
 use std::io::Print;
-use streams::input::{Filled, fill};
+use streams::input::{Failed, fill};
 
 // Answers for the text in a room, which it does not fill.
-fn settle<P: Print>(to: &P, room: &[u8], read: Filled) -> io::Result<()> {
-    let have = read.have;
-    if !read.ok {
-        return to.write_all(b"failed\n");
+fn settle<P: Print>(to: &P, room: &[u8], read: Result<usize, Failed>) -> io::Result<()> {
+    match read {
+        Err(_failed) => to.write_all(b"failed\n"),
+        Ok(have) if have < room.len() => answer::answer(to, &room[..have]),
+        Ok(_have) => to.write_all(b"long\n"),
     }
-    if room.len() <= have {
-        return to.write_all(b"long\n");
-    }
-    answer::answer(to, &room[..have])
 }
 
 #[tactic(none)]

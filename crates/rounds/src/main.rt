@@ -4,7 +4,8 @@
 use block::{check_block, record_at};
 use signs::judge;
 use std::io;
-use streams::input::fill;
+use streams::input::filled;
+use streams::turns::turns;
 
 // The cells of record k.
 fn cells(bytes: &[u8], k: u32) -> u32 {
@@ -13,35 +14,13 @@ fn cells(bytes: &[u8], k: u32) -> u32 {
     v.cells
 }
 
-// The most cells of a record, and at least `most`.
-fn round(bytes: &[u8], count: u32, least: u32) -> u32 {
-    let mut most = least;
-    let mut k = 0;
-    while k < count {
-        let n = cells(bytes, k);
-        if most < n {
-            most = n;
-        }
-        k += 1;
-    }
-    most
-}
-
-fn rounds(bytes: &[u8]) -> u32 {
-    let c = check_block(bytes);
-    let count = c.count;
-    let mut most = 0;
-    let mut turn: u32 = 0;
-    while turn < 64 {
-        most = round(bytes, count, most);
-        turn += 1;
-    }
-    most
-}
-
 fn main(rt: HostRuntime) -> io::Result<()> {
     let mut bytes = [0u8; 65536];
-    let read = fill(&mut rt.stdin(), &mut bytes, 0);
-    let most = rounds(&bytes[..read.have]);
+    let n = filled(&mut rt.stdin(), &mut bytes);
+    let block = &bytes[..n];
+    let most = turns(
+        check_block(block).count,
+        |most, k| most.max(cells(block, k)),
+    );
     println!(rt; "{most}")
 }

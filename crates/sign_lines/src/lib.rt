@@ -1,9 +1,9 @@
-// The calls `sign` and `convert`. A block stands in the line as hex.
+// The calls `sign` and `convert`. A block stands in the line as hex. Each is asked what stands behind its name; none where that is no call.
 #![tactic(auto)]
 
-use pieces::{block_and_record, buffer, naturals, unknown};
+use pieces::{block_and_record, buffer, last_word, naturals};
 use signing::{Changed, sign_record, to_version_1, to_version_2};
-use text::read::{hex, next, number, up_to, word_end};
+use text::read::{first_word, natural};
 use text::write;
 
 // `code record HEX` of the block afterwards.
@@ -20,42 +20,26 @@ fn sign_answer(bytes: &mut [u8], k: u32, out: &mut [u8]) -> usize {
 }
 
 // `sign HEX k`: `code record HEX` of the block afterwards.
-pub fn sign_line(line: &[u8], at: usize, out: &mut [u8]) -> usize {
+pub fn sign_line(line: &[u8], out: &mut [u8]) -> Option<usize> {
     let mut bytes = [0u8; 65536];
-    let asked = block_and_record(line, at, &mut bytes);
-    if !asked.ok {
-        return unknown(out);
-    }
-    let n = asked.size;
-    sign_answer(&mut bytes[..n], asked.k, out)
+    let asked = block_and_record(line, &mut bytes)?;
+    Some(sign_answer(&mut bytes[..asked.size], asked.k, out))
 }
 
 // Calls `to_version_1` or `to_version_2`, and writes the answer.
-fn convert_answer(bytes: &mut [u8], version: u64, out: &mut [u8]) -> usize {
-    if version == 1 {
-        let older = to_version_1(bytes);
-        return changed(bytes, older, out);
-    }
-    if version == 2 {
-        let newer = to_version_2(bytes);
-        return changed(bytes, newer, out);
-    }
-    unknown(out)
+fn convert_answer(bytes: &mut [u8], version: u64, out: &mut [u8]) -> Option<usize> {
+    let told = match version {
+        1 => to_version_1(bytes),
+        2 => to_version_2(bytes),
+        _ => return None,
+    };
+    Some(changed(bytes, told, out))
 }
 
 // `convert VERSION HEX`: `code record HEX` of the block afterwards.
-pub fn convert_line(line: &[u8], at: usize, out: &mut [u8]) -> usize {
+pub fn convert_line(line: &[u8], out: &mut [u8]) -> Option<usize> {
+    let (version, block) = first_word(line);
     let mut bytes = [0u8; 65536];
-    let v = number(line, at);
-    let version = up_to(v, 2);
-    let from = v.next;
-    let end = word_end(line, from);
-    let n = hex(line, from, end, &mut bytes);
-    if next(line, end) < line.len() {
-        return unknown(out);
-    }
-    if 65536 < n {
-        return unknown(out);
-    }
-    convert_answer(&mut bytes[..n], version, out)
+    let n = last_word(block, &mut bytes)?;
+    convert_answer(&mut bytes[..n], natural(version)?, out)
 }

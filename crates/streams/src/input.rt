@@ -1,48 +1,37 @@
 // Standard input into a room, with a read that fails told from its end.
-ghost use Rattle.std.specs.Prelude.{◌+◌, ◌≤◌, length};
+ghost use Rattle.std.specs.Prelude.{◌≤◌, length, IfOk, IfErr};
 
 use std::io::Read;
 
-// How many bytes of a room are filled, and whether no read failed.
+// A read failed behind so many bytes of a room.
 #[derive(Clone, Copy)]
-pub struct Filled {
-    pub ok: bool,
+pub struct Failed {
     pub have: usize,
 }
 
-// One read: whether it did not fail, and how many bytes came.
-#[derive(Clone, Copy)]
-struct Came {
-    ok: bool,
-    bytes: usize,
-}
-
-// Reads once, behind the first bytes of a room.
-fn read_once<R: Read>(input: &mut R, room: &mut [u8], have: usize) -> Came
-    requires { have ≤ length room.old }
-    ensures { have + result.bytes ≤ length room.old }
-{
-    match input.read(&mut room[have..]) {
-        Ok(bytes) => Came { ok: true, bytes },
-        Err(_error) => Came {
-            ok: false,
-            bytes: 0,
-        },
-    }
-}
-
-// Reads behind the first bytes of a room until it is full or the input ends.
-pub fn fill<R: Read>(input: &mut R, room: &mut [u8], from: usize) -> Filled
+// Reads behind the first bytes of a room until it is full or the input ends. Answers how many bytes of the room are filled.
+pub fn fill<R: Read>(input: &mut R, room: &mut [u8], from: usize) -> Result<usize, Failed>
     requires { from ≤ length room.old }
-    ensures { result.have ≤ length room.old }
+    ensures read { IfOk result (λ have. have ≤ length room.old) }
+    ensures failed { IfErr result (λ f. f.have ≤ length room.old) }
 {
     let mut have = from;
     while have < room.len() {
-        let came = read_once(input, room, have);
-        if came.bytes == 0 {
-            return Filled { ok: came.ok, have };
+        match input.read(&mut room[have..]) {
+            Ok(0) => return Ok(have),
+            Ok(bytes) => have += bytes,
+            Err(_error) => return Err(Failed { have }),
         }
-        have += came.bytes;
     }
-    Filled { ok: true, have }
+    Ok(have)
+}
+
+// The same of a room of which nothing is filled, where a read that fails is the end of the input.
+pub fn filled<R: Read>(input: &mut R, room: &mut [u8]) -> usize
+    ensures { result ≤ length room.old }
+{
+    match fill(input, room, 0) {
+        Ok(have) => have,
+        Err(failed) => failed.have,
+    }
 }

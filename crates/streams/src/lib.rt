@@ -1,5 +1,6 @@
-// Standard input and output of the programs that make a block of a text.
+// Standard input and output of the programs that make a block of a text, and the turns of those that ./bench times.
 #![tactic(auto)]
 
 pub mod input;
 pub mod output;
+pub mod turns;

@@ -8,7 +8,7 @@ use text::write;
 fn told_line(out: &mut [u8], code: u8, others: &[u64]) -> usize {
     let first = write::natural(out, 0, code as u64);
     let last = naturals(out, first, others);
-    write::put(out, last, 10)
+    write::put(out, last, b'\n')
 }
 
 // Writes the line, and behind it, where the code is 0, the bytes of a block that are used.

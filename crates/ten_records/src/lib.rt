@@ -11,11 +11,7 @@ use endian::get_i32;
 pub fn count(bytes: &[u8]) -> u32
     ensures { result ≡ read_count bytes.now }
 {
-    let n = bytes.len() / 84;
-    if n < 800 {
-        return n as u32;
-    }
-    800
+    (bytes.len() / 84).min(800) as u32
 }
 
 // The coordinates of the record at a place.
@@ -24,12 +20,8 @@ pub fn coords(bytes: &[u8], at: usize) -> [i32; 20]
     ensures { result ≡ read_coords bytes.now at }
 {
     let mut out = [0i32; 20];
-    let mut k: usize = 0;
-    while k < 20 {
-        let i = at + 4 + 4 * k;
-        let x = get_i32(bytes, i);
-        out[k] = x;
-        k += 1;
+    for k in 0..20 {
+        out[k] = get_i32(bytes, at + 4 + 4 * k);
     }
     out
 }

@@ -2,7 +2,7 @@
 --   decimal-one, decimal-more : a number of one digit, and the last digit of a longer one
 --   decimal-few     : a number below 10^n has at most n digits
 --   decimal-reads, integer-reads : read again, it is the number; so two numbers with the same text are the same
---   integer-minus, integer-plain : a whole number is its size, with a minus or without
+--   integer-minus, integer-plain : a whole number is its size, with a minus or without, by the test whether it is below zero
 -- Assumes nothing.
 use mathlib.Core.Path.{◌≡◌, refl, sym, ap, ◌∙◌}
 use mathlib.Core.Bool.{Bool, true, false}
@@ -13,7 +13,12 @@ use native.Mathlib.Omega.{arith}
 use borrow.Author.Tests.{ltb-true, ltb-false, lt-ltb, le-ltb, ne_eqb}
 use lib.Dec.{ltb}
 use lib.IntN.{ℤ, pos, negsuc, neg_ℤ, nat_abs}
-use lib.ListN.{length, length-append}
+use lib.Signed.{lt_z}
+use native.Mathlib.Numerals.{add-one}
+use mathlib.Core.Logic.{inl, inr}
+use lib.ListN.{length, get_or, take, length-append}
+use lib.Seq.{take-suc}
+use Rattle.std.specs.Char.{IsDigitOf}
 use Rattle.text.specs.Writing.{digits, decimal, integer, reads_on, reads, reads_integer}
 
 -- a test, its two outcomes with what each tells
@@ -68,6 +73,20 @@ reads-last : (n : ℕ) (ds : List ℕ) (d : ℕ) → reads_on n (ds ++ (d ∷ []
 reads-last n [] d = refl
 reads-last n (e ∷ ds) d = reads-last (10 * n + (e - 48)) ds d
 
+-- what a byte adds that the library has as a digit
+digit-value : (b d : ℕ) → IsDigitOf b d → d < 10 → d ≡ b - 48
+digit-value b d (inl (r, e)) h = omega arith
+digit-value b d (inr (inl (r, e))) h = absurd (omega (arith, r.0))
+digit-value b d (inr (inr (r, e))) h = absurd (omega (arith, r.0))
+
+pub reads-more : (w : List ℕ) (i n b d : ℕ) → i < length w → n ≡ reads (take i w) → b ≡ get_or w i 0 → IsDigitOf b d → d < 10
+    → n * 10 + d ≡ reads (take (i + 1) w)
+reads-more w i n b d h e f g l =
+    sym (ap (λ (k : ℕ). reads (take k w)) (add-one i)
+    ∙ ap reads (take-suc w i 0 h)
+    ∙ reads-last 0 (take i w) (get_or w i 0)
+    ∙ (let q = digit-value b d g l in omega (arith, e, f)))
+
 reads-fuel : (f n : ℕ) → n < f → reads (decimal n) ≡ n
 reads-fuel zero n h = absurd (omega arith)
 reads-fuel (suc f) n h =
@@ -105,10 +124,12 @@ integer-reads (pos n) = unsigned (decimal n) (all-fuel (suc n) n (omega arith)) 
 integer-reads (negsuc n) = ap (λ (m : ℕ). neg_ℤ (pos m)) (decimal-reads (suc n))
 
 -- ---- by sign and size
-pub integer-minus : (z : ℤ) (n : ℕ) → z ≡ negsuc n → integer z ≡ 45 ∷ decimal (nat_abs z)
+pub integer-minus : (z : ℤ) → lt_z z (pos 0) ≡ true → integer z ≡ 45 ∷ decimal (nat_abs z)
 unfolding integer
-integer-minus z n e = rw e refl
+integer-minus (pos n) t = let h = ltb-true n 0 t in absurd (omega arith)
+integer-minus (negsuc n) t = refl
 
-pub integer-plain : (z : ℤ) (n : ℕ) → z ≡ pos n → integer z ≡ decimal (nat_abs z)
+pub integer-plain : (z : ℤ) → lt_z z (pos 0) ≡ false → integer z ≡ decimal (nat_abs z)
 unfolding integer
-integer-plain z n e = rw e refl
+integer-plain (pos n) t = refl
+integer-plain (negsuc n) t = cc

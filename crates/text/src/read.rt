@@ -1,274 +1,130 @@
-// Reading a line whose words are parted by one space each. A place past the end is allowed everywhere.
-ghost use Rattle.std.specs.Prelude.{◌+◌, ◌≤◌, ◌<◌};
+// Reading a line whose words are parted by one space each. A line that is at its end has an empty word left.
+ghost use Rattle.std.specs.Prelude.{◌≡◌, ◌≢◌, ◌+◌, ◌<◌, ◌≤◌, length, take, drop, slice_index, EachIndex, IfSome};
+ghost use Rattle.text.specs.Writing.{reads, reads_integer};
 
-// A number as it is written, its sign apart, and the place of the next word. Not ok where there is no number of 64 bits.
-#[derive(Clone, Copy)]
-pub struct Written {
-    pub ok: bool,
-    pub negative: bool,
-    pub size: u64,
-    pub next: usize,
-}
-
-// A number of 32 bits with its sign, and the place of the next word.
-#[derive(Clone, Copy)]
-pub struct Written32 {
-    pub ok: bool,
-    pub value: i32,
-    pub next: usize,
-}
-
-// The byte at a place; past the end stands a zero.
-pub fn byte(line: &[u8], at: usize) -> u8 {
-    if at < line.len() {
-        return line[at];
-    }
-    0
-}
-
-// The end of the line at a place, among the first `have` bytes; `have` where none has come.
-pub fn line_end(line: &[u8], from: usize, have: usize) -> usize
-    ensures { (result < have → from ≤ result) × (result ≤ have) × (from ≤ have → from ≤ result) }
+// The first word of a line, and what stands behind it and one space.
+pub fn first_word(line: &[u8]) -> (&[u8], &[u8])
+    ensures word { result.0.now ≡ take (length result.0.now) line.now }
+    ensures behind { result.1.now ≡ drop (length result.0.now + 1) line.now }
+    ensures parted { EachIndex result.0.now (λ k. slice_index result.0.now k ≢ 32) }
+    ensures space { length result.0.now < length line.now → slice_index line.now (length result.0.now) ≡ 32 }
 {
-    let mut at = from;
-    while at < have {
-        if byte(line, at) == 10 {
-            return at;
-        }
-        at += 1;
-    }
-    have
-}
-
-// The end of the word at a place.
-pub fn word_end(line: &[u8], at: usize) -> usize {
-    let mut end = at;
-    while end < line.len() {
-        if line[end] == 32 {
-            return end;
-        }
-        end += 1;
-    }
-    end
-}
-
-// The place after a word that ends here and after one space.
-pub fn next(line: &[u8], end: usize) -> usize {
-    if end < line.len() {
-        return end + 1;
-    }
-    end
-}
-
-// Whether the word from a place to an end is this one.
-pub fn is_word(line: &[u8], at: usize, end: usize, word: &[u8]) -> bool {
-    if end < at {
-        return false;
-    }
-    if end - at != word.len() {
-        return false;
-    }
-    let mut k = 0;
-    while k < word.len() {
-        if byte(line, at + k) != word[k] {
-            return false;
-        }
-        k += 1;
-    }
-    true
-}
-
-// The number of the digits from a place to an end.
-fn digits(line: &[u8], negative: bool, from: usize, end: usize) -> Written {
-    let next = next(line, end);
-    let mut size: u64 = 0;
-    let mut at = from;
-    while at < end {
-        let b = byte(line, at);
-        if b < 48 {
-            return Written {
-                ok: false,
-                negative,
-                size: 0,
-                next,
-            };
-        }
-        if 57 < b {
-            return Written {
-                ok: false,
-                negative,
-                size: 0,
-                next,
-            };
-        }
-        if 1844674407370955161 < size {
-            return Written {
-                ok: false,
-                negative,
-                size: 0,
-                next,
-            };
-        }
-        let tens = 10 * size;
-        let digit = (b - 48) as u64;
-        if 18446744073709551615 - tens < digit {
-            return Written {
-                ok: false,
-                negative,
-                size: 0,
-                next,
-            };
-        }
-        size = tens + digit;
-        at += 1;
-    }
-    Written {
-        ok: from < end,
-        negative,
-        size,
-        next,
+    match line.iter().position(|b| *b == b' ') {
+        Some(end) => (&line[..end], &line[end + 1..]),
+        None => (line, &[]),
     }
 }
 
-// The number at a place: digits, with a minus before them or none.
-pub fn number(line: &[u8], at: usize) -> Written {
-    let end = word_end(line, at);
-    if byte(line, at) == 45 {
-        return digits(line, true, next(line, at), end);
-    }
-    digits(line, false, at, end)
-}
-
-// A number without a minus that is at most this one; where it is none, or another, one more than this one.
-pub fn up_to(n: Written, most: u32) -> u64
-    ensures { result ≤ most + 1 }
+// The word of a line that has no other.
+pub fn only_word(line: &[u8]) -> Option<&[u8]>
+    ensures { IfSome result (λ w. (w.now ≡ take (length w.now) line.now) × (length line.now ≤ length w.now + 1)) }
 {
-    let over = most as u64 + 1;
-    if n.negative {
-        return over;
-    }
-    if !n.ok {
-        return over;
-    }
-    if over <= n.size {
-        return over;
-    }
-    n.size
+    let (word, behind) = first_word(line);
+    if behind.is_empty() { Some(word) } else { None }
 }
 
-// The number at a place, if it has 32 bits.
-pub fn signed(line: &[u8], at: usize) -> Written32 {
-    let n = number(line, at);
-    let bad = Written32 {
-        ok: false,
-        value: 0,
-        next: n.next,
+// The number that a word is, if it is all digits and has 64 bits.
+pub fn natural(word: &[u8]) -> Option<u64>
+    ensures { IfSome result (λ n. n ≡ reads word.now) }
+{
+    if word.is_empty() {
+        return None;
+    }
+    let mut n: u64 = 0;
+    for b in word {
+        let digit = char::from(*b).to_digit(10)?;
+        n = n.checked_mul(10)?.checked_add(u64::from(digit))?;
+    }
+    Some(n)
+}
+
+// The number that a word is, if it is at most this one.
+pub fn up_to(word: &[u8], most: u32) -> Option<u32>
+    ensures { IfSome result (λ n. (n ≡ reads word.now) × (n ≤ most)) }
+{
+    let n = u32::try_from(natural(word)?).ok()?;
+    if n <= most { Some(n) } else { None }
+}
+
+// The number that a word is, if it has 8 bits.
+pub fn byte(word: &[u8]) -> Option<u8>
+    ensures { IfSome result (λ n. n ≡ reads word.now) }
+{
+    u8::try_from(natural(word)?).ok()
+}
+
+// The number that a word is, digits with a minus before them or none, if it has 32 bits.
+pub fn signed(word: &[u8]) -> Option<i32>
+    ensures { IfSome result (λ z. z ≡ reads_integer word.now) }
+{
+    let n = match word {
+        [b'-', digits @ ..] => i64::try_from(natural(digits)?).ok()?.checked_neg()?,
+        _ => i64::try_from(natural(word)?).ok()?,
     };
-    if !n.ok {
-        return bad;
+    i32::try_from(n).ok()
+}
+
+// Reads all words of a line, each by one function. Answers how many there are; none where one is refused or there is no room for all.
+pub fn values<T: Copy, F: Fn(&[u8]) -> Option<T>>(
+    line: &[u8],
+    read: F,
+    out: &mut [T],
+) -> Option<usize>
+    requires { F.IsAlwaysCallable read }
+    ensures { IfSome result (λ n. n ≤ length out.old) }
+{
+    let mut rest = line;
+    for (n, place) in out.iter_mut().enumerate() {
+        if rest.is_empty() {
+            return Some(n);
+        }
+        let (word, behind) = first_word(rest);
+        *place = read(word)?;
+        rest = behind;
     }
-    if 2147483648 < n.size {
-        return bad;
-    }
-    let size = n.size as i64;
-    if n.negative {
-        return Written32 {
-            ok: true,
-            value: (0 - size) as i32,
-            next: n.next,
-        };
-    }
-    if size == 2147483648 {
-        return bad;
-    }
-    Written32 {
-        ok: true,
-        value: size as i32,
-        next: n.next,
+    if rest.is_empty() {
+        Some(out.len())
+    } else {
+        None
     }
 }
 
-// Reads numbers to the end of the line. Answers how many; one more than there is room for where they are too many or not all numbers.
-pub fn numbers(line: &[u8], from: usize, out: &mut [i32]) -> usize {
-    let mut at = from;
-    let mut k = 0;
-    while at < line.len() {
-        if out.len() <= k {
-            return k + 1;
-        }
-        let x = signed(line, at);
-        if !x.ok {
-            return out.len() + 1;
-        }
-        let value = x.value;
-        out[k] = value;
-        at = x.next;
-        k += 1;
-    }
-    k
+// Reads numbers to the end of a line.
+pub fn numbers(line: &[u8], out: &mut [i32]) -> Option<usize>
+    ensures { IfSome result (λ n. n ≤ length out.old) }
+{
+    values(line, signed, out)
 }
 
-// The value of a hex digit; 16 where it is none.
-fn hex_digit(b: u8) -> u8 {
-    if b < 48 {
-        return 16;
-    }
-    if b < 58 {
-        return b - 48;
-    }
-    if b < 65 {
-        return 16;
-    }
-    if b < 71 {
-        return b - 55;
-    }
-    if b < 97 {
-        return 16;
-    }
-    if b < 103 {
-        return b - 87;
-    }
-    16
+// The value of a hex digit.
+fn hex_digit(b: u8) -> Option<u8>
+    ensures { IfSome result (λ n. n < 16) }
+{
+    Some(char::from(b).to_digit(16)? as u8)
 }
 
-// The byte of the two hex digits at a place; 256 where they are none.
-fn hex_byte(line: &[u8], at: usize) -> u16 {
-    let high = hex_digit(byte(line, at));
-    let low = hex_digit(byte(line, next(line, at)));
-    if 15 < high {
-        return 256;
+// The bytes whose hex digits these are.
+fn hex_bytes(digits: &[u8], out: &mut [u8]) -> Option<usize>
+    ensures { IfSome result (λ n. n ≤ length out.old) }
+{
+    let n = digits.len() / 2;
+    if digits.len() % 2 != 0 || out.len() < n {
+        return None;
     }
-    if 15 < low {
-        return 256;
+    for k in 0..n {
+        out[k] = 16 * hex_digit(digits[2 * k])? + hex_digit(digits[2 * k + 1])?;
     }
-    16 * (high as u16) + low as u16
+    Some(n)
 }
 
-// Reads the bytes whose hex digits stand from a place to an end; `-` stands for none. Answers how many; one more than there is room
-// for where they are too many or not all hex.
-pub fn hex(line: &[u8], from: usize, end: usize, out: &mut [u8]) -> usize {
-    if is_word(line, from, end, b"-") {
-        return 0;
+// The bytes whose hex digits a word is; `-` stands for none. Answers how many there are; none where it is not all hex or there is no
+// room for all.
+pub fn hex(word: &[u8], out: &mut [u8]) -> Option<usize>
+    ensures { IfSome result (λ n. n ≤ length out.old) }
+{
+    match word {
+        [] => None,
+        b"-" => Some(0),
+        _ => hex_bytes(word, out),
     }
-    if end <= from {
-        return out.len() + 1;
-    }
-    let mut at = from;
-    let mut k = 0;
-    while at < end {
-        if out.len() <= k {
-            return k + 1;
-        }
-        if end - at < 2 {
-            return out.len() + 1;
-        }
-        let b = hex_byte(line, at);
-        if 255 < b {
-            return out.len() + 1;
-        }
-        out[k] = b as u8;
-        at += 2;
-        k += 1;
-    }
-    k
 }

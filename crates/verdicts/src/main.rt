@@ -11,8 +11,8 @@ use list::write_by;
 use std::env::{Env, FillError};
 use std::io;
 use std::io::{Print, Read};
-use streams::input::fill;
-use text::read::{number, up_to};
+use streams::input::filled;
+use text::read::{byte, only_word};
 
 // Writes the list of an input, of which a buffer longer than any block holds the first n bytes, and answers its length.
 fn list_input(bytes: &[u8], n: usize, by: Profile, out: &mut [u8]) -> usize
@@ -28,9 +28,9 @@ fn list_input(bytes: &[u8], n: usize, by: Profile, out: &mut [u8]) -> usize
 // Prints the list by a profile.
 fn print<R: Read, P: Print>(input: &mut R, to: &P, by: Profile) -> io::Result<()> {
     let mut bytes = [0u8; 65536];
-    let read = fill(input, &mut bytes, 0);
+    let n = filled(input, &mut bytes);
     let mut out = [0u8; 71680];
-    let length = list_input(&bytes, read.have, by, &mut out);
+    let length = list_input(&bytes, n, by, &mut out);
     to.write_all(&out[..length])
 }
 
@@ -44,27 +44,22 @@ fn has_arg<E: Env>(env: &E, i: usize) -> bool {
     }
 }
 
-// The percentage that the one argument is; 256 where it is no number from 0 to 255, or not the only one.
-fn percent<E: Env>(env: &E) -> u64 {
+// The percentage that the one argument is; none where it is no number from 0 to 255, or not the only one.
+fn percent<E: Env>(env: &E) -> Option<u8> {
     if has_arg(env, 2) {
-        return 256;
+        return None;
     }
     let mut word = [0u8; 16];
     let n = env.arg(1, &mut word).unwrap_or(0);
-    let p = number(&word[..n], 0);
-    if p.next != n {
-        return 256;
-    }
-    up_to(p, 255)
+    byte(only_word(&word[..n])?)
 }
 
 fn main(rt: HostRuntime) -> io::Result<()> {
     if !has_arg(&rt, 1) {
         return print(&mut rt.stdin(), &rt, Profile::Plain);
     }
-    let p = percent(&rt);
-    if 255 < p {
-        return rt.write_all(b"floor\n");
+    match percent(&rt) {
+        Some(p) => print(&mut rt.stdin(), &rt, Profile::Floor(p)),
+        None => rt.write_all(b"floor\n"),
     }
-    print(&mut rt.stdin(), &rt, Profile::Floor(p as u8))
 }

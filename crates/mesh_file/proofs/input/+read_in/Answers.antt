@@ -1,14 +1,17 @@
 -- `mesh_file::input::read_in` is safe and ends: the rooms left fall, and the room keeps its length. No search here: it would count to it.
-use mathlib.Core.Path.{◌≡◌, sym, ◌∙◌}
-use Prim.Native.Nat.{ℕ, ◌<◌, ◌≤◌}
+use mathlib.Core.Path.{sym, ◌∙◌}
+use Prim.Native.Nat.{ℕ, ◌-◌, ◌<◌, ◌≤◌}
 use native.Mathlib.Omega.{arith}
 use borrow.Author.Rules.{rules}
 use lib.ListN.{length-replicate}
 use Rattle.mesh_file.proofs.input.+read_in.Goals as goal
 
--- what is neither 0 nor 1 is more than 1
-fewer : (n m : ℕ) → (n ≡ 0 → ⊥) → (n ≡ 1 → ⊥) → m ≤ 1 → m < n
-fewer n m none one h = omega (arith, none, one, h)
+-- what is at least 2 has one before it
+some : (n : ℕ) → 2 ≤ n → 1 ≤ n
+some n h = omega arith
+
+fewer : (n : ℕ) → 2 ≤ n → n - 1 < n
+fewer n h = omega arith
 
 pub slice_bounds-fill-end : goal.slice_bounds-fill-end
 slice_bounds-fill-end g t c = sym (length-replicate {A = ℕ} 1048576 0)
@@ -25,6 +28,8 @@ slice_bounds-settle-end g t c = sym (c.fill-read.auto.room ∙ length-replicate 
 pub slice_bounds-read_in-end : goal.slice_bounds-read_in-end
 slice_bounds-read_in-end g t c = sym (c.fill-read.auto.room ∙ length-replicate {A = ℕ} 1048576 0)
 
+pub overflow_sub-rooms : goal.overflow_sub-rooms
+overflow_sub-rooms g t c = some c.args.rooms c.if-rooms-lt2.false
+
 pub read_in-requires : goal.read_in-requires
-read_in-requires g t c κs within =
-    (rw (sym c.decreases) (fewer c.args.rooms c.in_ok-more.more c.if-rooms-eq0.false c.if-rooms-eq1.false c.in_ok-more.ensures), search rules)
+read_in-requires g t c κs within = (rw (sym c.decreases) (fewer c.args.rooms c.if-rooms-lt2.false), search rules)

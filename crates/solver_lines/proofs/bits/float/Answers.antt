@@ -1,29 +1,16 @@
 -- `solver_lines::bits::float` meets its contract: with the sign's bit taken off, the pattern of what is no number is above the infinity's.
-use mathlib.Core.Path.{◌≡◌, refl, sym, ◌∙◌}
+use mathlib.Core.Path.{sym, ◌∙◌}
 use borrow.Author.Tests.{lt-ltb, le-ltb}
-use lib.Dec.{T}
-use lib.Ieee.{Float, nan, inf, fin, binary64, of_bits, is_nan, div}
+use lib.Ieee.{binary64, of_bits}
 use lib.Ieee.Bits.{nan_bits_is, nan_bits_above}
 use Rattle.algebra.proofs.Truth.{true-T, false-not}
+use Rattle.solver_lines.proofs.Nans.{only_nan, nan_value}
 use Rattle.solver_lines.proofs.bits.float.Goals as goal
-
--- `solver_lines::bits::float` meets its contract: with the sign's bit taken off, the pattern of what is no number is above the infinity's.
--- Assumes nothing.
-only_nan : (x : Float) → T (is_nan x) → x ≡ nan
-unfolding is_nan
-only_nan nan t = refl
-only_nan (inf s) t = absurd t
-only_nan (fin s m e) t = absurd t
-
--- zero over zero is no number
-no_number : div binary64 (of_bits binary64 0) (of_bits binary64 0) ≡ nan
-unfolding div of_bits
-no_number = refl
 
 pub returns-then-pattern-gt9218868437227405312 : goal.returns-then-pattern-gt9218868437227405312
 returns-then-pattern-gt9218868437227405312 c =
     let n = c.args.pattern in
-    no_number ∙ sym (only_nan (of_bits binary64 n) (true-T (sym (nan_bits_is binary64 n) ∙ nan_bits_above binary64 n ∙ lt-ltb _ _ c.if-pattern-gt9218868437227405312.true)))
+    nan_value ∙ sym (only_nan (of_bits binary64 n) (true-T (sym (nan_bits_is binary64 n) ∙ nan_bits_above binary64 n ∙ lt-ltb _ _ c.if-pattern-gt9218868437227405312.true)))
 
 pub float_from_bits-result : goal.float_from_bits-result
 float_from_bits-result c =

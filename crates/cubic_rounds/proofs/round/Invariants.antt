@@ -1,9 +1,0 @@
--- `cubic_rounds::round` is safe and ends: the number rises to the count.
-use Prim.Native.Nat.{◌-◌, ◌≤◌}
-use Rattle.cubic_rounds.proofs.round.Given as goal
-
-abbrev pub invariant-loop-k : goal.invariant-loop-k
-invariant-loop-k l = l.k ≤ l.records
-
-abbrev pub decreases-loop-k : goal.decreases-loop-k
-decreases-loop-k l = l.records - l.k

@@ -1,9 +1,0 @@
--- `cubic_values::rounds` is safe and ends: there are 64 turns.
-use Rattle.std.proofs.Common.{◌-◌, ◌≤◌}
-use Rattle.cubic_values.proofs.rounds.Given as goal
-
-abbrev pub invariant-loop-turn : goal.invariant-loop-turn
-invariant-loop-turn l = l.turn ≤ 64
-
-abbrev pub decreases-loop-turn : goal.decreases-loop-turn
-decreases-loop-turn l = 64 - l.turn

@@ -1,9 +1,0 @@
--- `rounds::round` is safe and ends: the number rises to the count.
-use Prim.Native.Nat.{◌-◌, ◌≤◌}
-use Rattle.rounds.proofs.round.Given as goal
-
-abbrev pub invariant-loop-k : goal.invariant-loop-k
-invariant-loop-k l = l.k ≤ l.count
-
-abbrev pub decreases-loop-k : goal.decreases-loop-k
-decreases-loop-k l = l.count - l.k

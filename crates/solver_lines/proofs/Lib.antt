@@ -1,0 +1,2 @@
+-- What is no number.
+pub mod Nans
