@@ -11,6 +11,7 @@ use lib.Dec.{lit<}
 use lib.ListN.{length}
 use Rattle.faults.proofs.Refusals.{number-some}
 use Rattle.record.specs.Record.{used}
+use Rattle.straighten.specs.declared.Straightened.{Straightened}
 use Rattle.block.specs.Block.{place, record_at}
 use Rattle.mending.specs.declared.Mended.{Mended}
 use Rattle.mending.specs.Calls.{as_mended, NotMended, IsMended}
@@ -27,40 +28,31 @@ mended : {l : List ℕ} {k : ℕ} {m : Mended} → Tried l k m → m.code ≡ 0 
 mended {l} {k} {m} (inl p) h = absurd (mend-some l k (record { code = m.code; number = m.number }) p.refused h)
 mended (inr p) h = p
 
+-- record k stands within the bytes
+room : (l : List ℕ) (k : ℕ) (t : Straightened) → Tried l k (as_mended (Ok t)) → place k + 80 ≤ length l
+room l k t p = mend-room l k (mended p refl).1.accepted
+
 pub returns-in_err-t : goal.returns-in_err-t
 returns-in_err-t c =
     let p = err_from_is_err_and c.from_residual.result c.from_residual.ensures.1 in
     rw (p.1, p.2) (inl (refused c.in_err-t.ensures (number-some _)))
 
 pub put_moved-requires : goal.put_moved-requires
-put_moved-requires c =
-    let done : let a = c.args in (o : List ℕ) × IsMended a.block.now a.k (as_mended (Ok c.in_ok-t.t)) o = mended c.in_ok-t.ensures refl in
-    let room : let a = c.args in place a.k + 80 ≤ length a.block.now = (let a = c.args in mend-room a.block.now a.k done.1.accepted) in
-    (room, lit< tt)
+put_moved-requires c = (room c.args.block.now c.args.k c.in_ok-t.t c.in_ok-t.ensures, lit< tt)
 
 pub put_moved-requires-2 : goal.put_moved-requires-2
-put_moved-requires-2 c =
-    let done : let a = c.args in (o : List ℕ) × IsMended a.block.now a.k (as_mended (Ok c.in_ok-t.t)) o = mended c.in_ok-t.ensures refl in
-    let room : let a = c.args in place a.k + 80 ≤ length a.block.now = (let a = c.args in mend-room a.block.now a.k done.1.accepted) in
-    (omega (arith, room, c.put_moved.auto.block), lit< tt)
+put_moved-requires-2 c = (omega (arith, room c.args.block.now c.args.k c.in_ok-t.t c.in_ok-t.ensures, c.put_moved.auto.block), lit< tt)
 
 pub put_moved-requires-3 : goal.put_moved-requires-3
-put_moved-requires-3 c =
-    let done : let a = c.args in (o : List ℕ) × IsMended a.block.now a.k (as_mended (Ok c.in_ok-t.t)) o = mended c.in_ok-t.ensures refl in
-    let room : let a = c.args in place a.k + 80 ≤ length a.block.now = (let a = c.args in mend-room a.block.now a.k done.1.accepted) in
-    (omega (arith, room, c.put_moved.auto.block, c.put_moved-2.auto.block), lit< tt)
+put_moved-requires-3 c = (omega (arith, room c.args.block.now c.args.k c.in_ok-t.t c.in_ok-t.ensures, c.put_moved.auto.block, c.put_moved-2.auto.block), lit< tt)
 
 pub unsign-requires : goal.unsign-requires
-unsign-requires c =
-    let done : let a = c.args in (o : List ℕ) × IsMended a.block.now a.k (as_mended (Ok c.in_ok-t.t)) o = mended c.in_ok-t.ensures refl in
-    let room : let a = c.args in place a.k + 80 ≤ length a.block.now = (let a = c.args in mend-room a.block.now a.k done.1.accepted) in
-    omega (arith, room, c.put_moved.auto.block, c.put_moved-2.auto.block, c.put_moved-3.auto.block)
+unsign-requires c = omega (arith, room c.args.block.now c.args.k c.in_ok-t.t c.in_ok-t.ensures, c.put_moved.auto.block, c.put_moved-2.auto.block, c.put_moved-3.auto.block)
 
 pub returns : goal.returns
 returns c =
-    let done : let a = c.args in (o : List ℕ) × IsMended a.block.now a.k (as_mended (Ok c.in_ok-t.t)) o = mended c.in_ok-t.ensures refl in
     let a = c.args in
-    let l = a.block.now in let d = done.1 in
+    let l = a.block.now in let d = (mended c.in_ok-t.ensures refl).1 in
     inr
     (record {
       accepted = d.accepted;

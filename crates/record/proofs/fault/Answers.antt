@@ -1,74 +1,71 @@
 -- `record::fault` meets its contract: fault by fault.
-use Rattle.std.proofs.lemmas.Result.{err_from_is_err_and}
+use mathlib.Core.List.{List}
 use mathlib.Core.Logic.{inr, ⊎_elim}
+use mathlib.Core.Path.{◌≡◌, subst}
 use Prim.Native.Nat.{ℕ, ◌≤◌, ◌<◌}
 use native.Mathlib.Nat as N
-use Rattle.element.specs.Kinds.{NotStored, kind_of}
-use Rattle.element.specs.Refusals.{no_more, AboveLevel, Accepted, node_codes}
+use Rattle.std.proofs.lemmas.Result.{err_from_is_err_and}
+use Rattle.algebra.specs.Within.{Each}
+use Rattle.element.specs.Kinds.{NotStored, kind_of, greatest_level}
+use Rattle.element.specs.Refusals.{Codes, no_more, code, Coded, node_codes}
 use Rattle.element.proofs.Refusals.{coded-here, coded-past, coded-end, coded-first, coded-then}
 use Rattle.element.proofs.Ranges.{each-inside}
-use Rattle.record.specs.declared.Record.{Record}
-use Rattle.record.specs.Record.{used, read_record}
-use Rattle.record.specs.Faults.{TooHigh, NotZero, sign_codes}
 use Rattle.faults.proofs.Refusals.{number-some}
+use Rattle.record.specs.declared.Record.{Record}
+use Rattle.record.specs.Record.{used, unused, read_record}
+use Rattle.record.specs.Faults.{TooHigh, NotZero, TooLow, sign_codes, record_codes}
 use Rattle.record.proofs.Refusals.{coded-ok}
 use Rattle.record.proofs.fault.Goals as goal
 
--- `record::fault` meets its contract: fault by fault.
 not-above : {m n : ℕ} → n ≤ m → ¬ (m < n)
 not-above h l = N.not-le_of_lt l h
 
+-- the order behind the unused pairs, and behind the two bytes
+abbrev behind_pairs : Record → ℕ → Codes ℕ
+behind_pairs r low = node_codes (kind_of r.kind) (used r) (code 10 (TooLow low r.id) no_more)
+
+abbrev behind_signs : ℕ → Record → ℕ → Codes ℕ
+behind_signs v r low = code 9 (NotZero v r) (behind_pairs r low)
+
+-- a record that was read, with a kind, a level limit and two bytes that are right
+module _ (v low : ℕ) (l : List ℕ) (at : ℕ) (r : Record) (e : r ≡ read_record l at) (k : ¬ NotStored r.kind)
+    (m : r.limit ≤ greatest_level (kind_of r.kind)) (s : Coded (sign_codes v (kind_of r.kind) r.signed r.level) 0) where
+  past-signs : {c : ℕ} → Coded (behind_signs v r low) c → Coded (record_codes v l at low) c
+  past-signs {c} q =
+      subst (λ (r : Record). Coded (code 1 (NotStored r.kind) (code 2 (TooHigh v r) (behind_signs v r low))) c) e
+      (coded-past k (coded-past (⊎_elim (not-above m) (coded-ok s tt).0) q))
+
+  -- and zeros for the unused pairs
+  past-pairs : {c : ℕ} → Each 0 (unused r) → Coded (behind_pairs r low) c → Coded (record_codes v l at low) c
+  past-pairs z q = past-signs (coded-past (⊎_elim (coded-ok s tt).1.0 (each-inside z)) q)
+
 pub returns-then-not-unused_zero : goal.returns-then-not-unused_zero
 returns-then-not-unused_zero c =
-    let stored : Record = (let a = c.args in read_record a.s.now a.at) in
-    let kind_known : ¬ NotStored stored.kind = rw c.read_record-r.ensures at (c.stored.ensures.yes c.if-not-stored.false) in
-    let level_allowed : let r = stored in ¬ AboveLevel (kind_of r.kind) r.limit = not-above (rw c.read_record-r.ensures at (rw c.greatest_level.ensures at c.if-greatest_level-r.false)) in
-    let signs : let r = stored in Accepted (sign_codes c.args.version (kind_of r.kind) r.signed r.level) = rw c.read_record-r.ensures at (coded-ok c.in_ok-sign_code.ensures tt) in
-    let not-high : ¬ TooHigh c.args.version stored = ⊎_elim level_allowed signs.0 in
-    coded-past kind_known (coded-past not-high
-    (coded-here (inr (rw c.read_record-r.ensures at (c.unused_zero.ensures.no c.if-not-unused_zero.true)))))
+    past-signs c.args.version c.args.low c.args.s.now c.args.at c.read_record-r.result c.read_record-r.ensures (c.stored.ensures.yes c.if-not-stored.false)
+    (rw c.greatest_level.ensures at c.if-greatest_level-r.false) c.in_ok-sign_code.ensures
+    (coded-here (inr (c.unused_zero.ensures.no c.if-not-unused_zero.true)))
 
 pub returns-in_err-used_code : goal.returns-in_err-used_code
 returns-in_err-used_code c =
-    let stored : Record = (let a = c.args in read_record a.s.now a.at) in
-    let kind_known : ¬ NotStored stored.kind = rw c.read_record-r.ensures at (c.stored.ensures.yes c.if-not-stored.false) in
-    let level_allowed : let r = stored in ¬ AboveLevel (kind_of r.kind) r.limit = not-above (rw c.read_record-r.ensures at (rw c.greatest_level.ensures at c.if-greatest_level-r.false)) in
-    let signs : let r = stored in Accepted (sign_codes c.args.version (kind_of r.kind) r.signed r.level) = rw c.read_record-r.ensures at (coded-ok c.in_ok-sign_code.ensures tt) in
-    let not-high : ¬ TooHigh c.args.version stored = ⊎_elim level_allowed signs.0 in
-    let zeros : ¬ NotZero c.args.version stored = (⊎_elim signs.1.0
-    (each-inside (rw c.read_record-r.ensures at (c.unused_zero.ensures.yes c.if-not-unused_zero.false)))) in
-    let r = stored in
+    let r = c.read_record-r.result in
     let p = err_from_is_err_and c.from_residual-in_err-used_code.result c.from_residual-in_err-used_code.ensures.1 in
-    rw (p.1, p.2) (coded-past kind_known (coded-past not-high (coded-past zeros
-    (coded-first (node_codes (kind_of r.kind) (used r) no_more) _ _
-    (rw c.read_record-r.ensures at c.in_err-used_code.ensures) (number-some _)))))
+    rw (p.1, p.2)
+    (past-pairs c.args.version c.args.low c.args.s.now c.args.at r c.read_record-r.ensures (c.stored.ensures.yes c.if-not-stored.false)
+    (rw c.greatest_level.ensures at c.if-greatest_level-r.false) c.in_ok-sign_code.ensures (c.unused_zero.ensures.yes c.if-not-unused_zero.false)
+    (coded-first (node_codes (kind_of r.kind) (used r) no_more) _ _ c.in_err-used_code.ensures (number-some _)))
 
 pub returns-then-from-low : goal.returns-then-from-low
 returns-then-from-low c =
-    let stored : Record = (let a = c.args in read_record a.s.now a.at) in
-    let kind_known : ¬ NotStored stored.kind = rw c.read_record-r.ensures at (c.stored.ensures.yes c.if-not-stored.false) in
-    let level_allowed : let r = stored in ¬ AboveLevel (kind_of r.kind) r.limit = not-above (rw c.read_record-r.ensures at (rw c.greatest_level.ensures at c.if-greatest_level-r.false)) in
-    let signs : let r = stored in Accepted (sign_codes c.args.version (kind_of r.kind) r.signed r.level) = rw c.read_record-r.ensures at (coded-ok c.in_ok-sign_code.ensures tt) in
-    let not-high : ¬ TooHigh c.args.version stored = ⊎_elim level_allowed signs.0 in
-    let zeros : ¬ NotZero c.args.version stored = (⊎_elim signs.1.0
-    (each-inside (rw c.read_record-r.ensures at (c.unused_zero.ensures.yes c.if-not-unused_zero.false)))) in
-    let nodes : let r = stored in Accepted (node_codes (kind_of r.kind) (used r) no_more) = rw c.read_record-r.ensures at (coded-ok c.in_ok-used_code.ensures tt) in
-    let r = stored in
-    coded-past kind_known (coded-past not-high (coded-past zeros
-    (coded-then (node_codes (kind_of r.kind) (used r) no_more) _ _ nodes
-    (coded-here (rw c.read_record-r.ensures at (rw c.from.ensures at c.if-from-low.true))))))
+    let r = c.read_record-r.result in
+    past-pairs c.args.version c.args.low c.args.s.now c.args.at r c.read_record-r.ensures (c.stored.ensures.yes c.if-not-stored.false)
+    (rw c.greatest_level.ensures at c.if-greatest_level-r.false) c.in_ok-sign_code.ensures (c.unused_zero.ensures.yes c.if-not-unused_zero.false)
+    (coded-then (node_codes (kind_of r.kind) (used r) no_more) _ _ (coded-ok c.in_ok-used_code.ensures tt)
+    (coded-here (rw c.from.ensures at c.if-from-low.true)))
 
 pub returns : goal.returns
 returns c =
-    let stored : Record = (let a = c.args in read_record a.s.now a.at) in
-    let kind_known : ¬ NotStored stored.kind = rw c.read_record-r.ensures at (c.stored.ensures.yes c.if-not-stored.false) in
-    let level_allowed : let r = stored in ¬ AboveLevel (kind_of r.kind) r.limit = not-above (rw c.read_record-r.ensures at (rw c.greatest_level.ensures at c.if-greatest_level-r.false)) in
-    let signs : let r = stored in Accepted (sign_codes c.args.version (kind_of r.kind) r.signed r.level) = rw c.read_record-r.ensures at (coded-ok c.in_ok-sign_code.ensures tt) in
-    let not-high : ¬ TooHigh c.args.version stored = ⊎_elim level_allowed signs.0 in
-    let zeros : ¬ NotZero c.args.version stored = (⊎_elim signs.1.0
-    (each-inside (rw c.read_record-r.ensures at (c.unused_zero.ensures.yes c.if-not-unused_zero.false)))) in
-    let nodes : let r = stored in Accepted (node_codes (kind_of r.kind) (used r) no_more) = rw c.read_record-r.ensures at (coded-ok c.in_ok-used_code.ensures tt) in
-    let r = stored in
-    coded-past kind_known (coded-past not-high (coded-past zeros
-    (coded-then (node_codes (kind_of r.kind) (used r) no_more) _ _ nodes
-    (coded-past (not-above (rw c.read_record-r.ensures at (rw c.from.ensures at c.if-from-low.false))) coded-end))))
+    let r = c.read_record-r.result in
+    past-pairs c.args.version c.args.low c.args.s.now c.args.at r c.read_record-r.ensures (c.stored.ensures.yes c.if-not-stored.false)
+    (rw c.greatest_level.ensures at c.if-greatest_level-r.false) c.in_ok-sign_code.ensures (c.unused_zero.ensures.yes c.if-not-unused_zero.false)
+    (coded-then (node_codes (kind_of r.kind) (used r) no_more) _ _ (coded-ok c.in_ok-used_code.ensures tt)
+    (coded-past (not-above (rw c.from.ensures at c.if-from-low.false)) coded-end))
