@@ -14,7 +14,7 @@
 -- t is the text, b and a are the buffer's content before and after, r is the answer.
 -- Definitions only.
 use Rattle.std.specs.Prelude.{◌≡◌, List, ◌⊎◌, ℕ, ◌+◌, ◌*◌, length, Result, Ok, Err}
-use Rattle.element.specs.Refusals.{Codes, no_more, code, ◌then◌, Refused as RefusedBy, Accepted}
+use Rattle.element.specs.Refusals.{Codes, no_more, code, ◌then◌, Refused, Accepted}
 use Rattle.block.specs.Faults.{Fault, naming}
 use Rattle.append.specs.Append.{buffer_codes}
 use Rattle.append.specs.Series.{Given, Series}
@@ -22,7 +22,7 @@ use Rattle.mesh_form.specs.Mesh.{Node, Element, Form, Mesh}
 use Rattle.mesh_numbers.specs.Numbers.{Unlisted}
 use Rattle.mesh_elements.specs.Takings.{NotFlat, Takings}
 use Rattle.faults.specs.Refusal.{number_of}
-use Rattle.block.specs.declared.Refused.{Refused}
+use Rattle.block.specs.declared.Refused.{Refused as RefusedAnswer}
 use Rattle.mesh.specs.declared.Meshed.{Meshed}
 use Rattle.mesh.specs.declared.Added.{Added}
 
@@ -62,12 +62,12 @@ pub record Said (t : List ℕ) (level : ℕ) (gs : List Given) (p : ℕ) : Type 
 abbrev pub refusal : ℕ → ℕ → Meshed
 refusal c n = record { code = c; number = n; used = 0; appended = 0; passed = 0 }
 
-abbrev pub as_meshed : Result Added Refused → Meshed
+abbrev pub as_meshed : Result Added RefusedAnswer → Meshed
 as_meshed (Ok d) = record { code = 0; number = 0; used = d.used; appended = d.appended; passed = d.passed }
 as_meshed (Err e) = refusal (number_of e.refusal) e.number
 
 pub record NotOpened (t b : List ℕ) (used : ℕ) (r : Meshed) (a : List ℕ) : Type 0 where
-  pub refused : RefusedBy (mesh_codes t b used) (record { code = r.code; number = r.number })
+  pub refused : Refused (mesh_codes t b used) (record { code = r.code; number = r.number })
   pub zeros : r ≡ refusal r.code r.number
   pub untouched : a ≡ b
 

@@ -37,6 +37,7 @@ fn skip(t: &[u8], at: usize, n: u64) -> usize
 }
 
 // The next nine numbers of a line, 2^32 for each that is missing.
+// stays (1): specs/Values `nine` states it, and a word that is no number is 2^32 as well (mesh_text, number_of)
 fn nine_from(t: &[u8], at: usize) -> [u64; 9]
     requires { at ≤ length t.now }
     ensures { result ≡ take 9 (map number_of (line (drop at t.now)) ++ replicate 9 4294967296) }

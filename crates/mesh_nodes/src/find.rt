@@ -57,6 +57,7 @@ pub fn seat(t: &[u8], numbers: &[u64], places: &mut [usize])
 }
 
 // The place of the row of a node number.
+// stays (1): a place that is 0 is none: specs/Nodes `Seated` states it, and an Option would double the table on the stack
 pub fn find(t: &[u8], numbers: &[u64], places: &[usize], n: u64) -> usize
     requires seats { Seats t.now places.now }
     requires once { ¬ Repeats (map id_of (nodes_in t.now)) }

@@ -9,6 +9,7 @@ pub fn lower(numbers: &[u64], n: u64) -> usize
 }
 
 // Puts a number in its place among the first `have`, where it does not stand there and there is room; how many there are then.
+// stays (6): no heap, so the table is lent, and as much of it is used as `have` says
 pub fn insert(numbers: &mut [u64], have: usize, n: u64) -> usize
     requires { have ≤ length numbers.old }
     ensures { (result ≤ length numbers.old) × (length numbers.new ≡ length numbers.old) }
