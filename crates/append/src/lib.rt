@@ -20,6 +20,7 @@ use faults::stored_code;
 use record::Record;
 
 // The answer of a call that writes a block: the code, the record number, and how many bytes are used.
+// stays (1): 01 gives the answer these fields, and a refusal zero in all but the first two (`append/specs/Calls: NotAppended`).
 #[derive(Clone, Copy)]
 pub struct Appended {
     pub code: u8,

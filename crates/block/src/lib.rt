@@ -29,6 +29,7 @@ impl From<Refusal> for Refused {
 }
 
 // The code, the record number, and the count.
+// stays (1): 01 gives the answer these fields, and a refusal zero in all but the first two (`block/specs/Calls: NoCount`).
 #[derive(Clone, Copy)]
 pub struct Checked {
     pub code: u8,
@@ -38,6 +39,7 @@ pub struct Checked {
 
 // The code, the record number, and a record.
 // stays (2): (a) beside `Record`: `fetched`, `NoRecord` and `IsRecord` hold its fields, which the rules give the call.
+// stays (1): 01 gives the answer these fields, and a refusal zero in all but the first two (`block/specs/Calls: fetched, NoRecord`).
 #[derive(Clone, Copy)]
 pub struct Fetched {
     pub code: u8,

@@ -16,6 +16,7 @@ use text::write;
 use verdict::{Judged, Word};
 
 // The code, the record number, and the length of the list.
+// stays (1): 01 gives the answer these fields, and a refusal zero in all but the first two (`list/specs/Calls: Fits, Short`).
 #[derive(Clone, Copy)]
 pub struct Listed {
     pub code: u8,
