@@ -3,11 +3,9 @@
 -- Assumes nothing.
 use mathlib.Core.Path.{◌≡◌, ap, ◌∙◌}
 use mathlib.Core.List.{List, [], ◌∷◌, ◌++◌}
-use Prim.Native.Nat.{ℕ, ◌+◌, ◌-◌, ◌≤◌}
+use Prim.Native.Nat.{ℕ, ◌+◌, ◌≤◌}
 use native.Mathlib.Omega.{arith}
-use Rattle.std.proofs.Math.Seq.{drop-drop}
-use lib.ListN.{length, take, drop}
-use borrow.Rule.Slice.PartMut.{put_mid}
+use lib.ListN.{length}
 use Rattle.endian.specs.Numbers.{bytes, over}
 use Rattle.endian.proofs.Writes.{over-more}
 use Rattle.record.specs.declared.Record.{Record}
