@@ -16,6 +16,7 @@ fn upto(w: &[u8], n: usize) -> &[u8]
 }
 
 // Whether this is a number above 0.
+#[tactic(auto, unfolding(crate::specs::Walk::positive_b))]
 fn positive(n: u64) -> bool
     ensures { result ≡ positive_b n }
 {
@@ -23,6 +24,7 @@ fn positive(n: u64) -> bool
 }
 
 // Whether a word is 2.2 with zeros behind it, or none.
+#[tactic(auto, unfolding(crate::specs::Walk::version_b))]
 fn is_version(w: &[u8]) -> bool
     ensures { result ≡ version_b w.now }
 {
@@ -33,6 +35,7 @@ fn is_version(w: &[u8]) -> bool
 }
 
 // Whether a row is that of a format.
+#[tactic(auto, unfolding(crate::specs::Walk::format_b))]
 pub fn is_format(t: &[u8]) -> bool
     ensures { result ≡ format_b (line t.now) }
 {
@@ -46,6 +49,7 @@ pub fn is_format(t: &[u8]) -> bool
 }
 
 // Whether a row is that of a node.
+#[tactic(auto, unfolding(crate::specs::Walk::node_b))]
 pub fn is_node(t: &[u8]) -> bool
     ensures { result ≡ node_b (line t.now) }
 {
@@ -61,6 +65,7 @@ pub fn is_node(t: &[u8]) -> bool
 }
 
 // Whether the row has the one word $End and a name.
+#[tactic(auto, unfolding(crate::specs::Walk::end_b))]
 pub fn is_end(t: &[u8], name: &[u8]) -> bool
     ensures { result ≡ end_b name.now (line t.now) }
 {
@@ -72,6 +77,7 @@ pub fn is_end(t: &[u8], name: &[u8]) -> bool
 }
 
 // Whether the row has one word, and that starts with $.
+#[tactic(auto, unfolding(crate::specs::Walk::mark_b))]
 pub fn is_mark(t: &[u8]) -> bool
     ensures { result ≡ mark_b (line t.now) }
 {
@@ -81,6 +87,7 @@ pub fn is_mark(t: &[u8]) -> bool
 }
 
 // Whether a type has so many node numbers.
+#[tactic(auto, unfolding(crate::specs::Walk::count_b, crate::specs::Values::size_of_type))]
 fn is_count(kind: u64, n: usize) -> bool
     ensures { result ≡ count_b kind n }
 {
@@ -91,6 +98,7 @@ fn is_count(kind: u64, n: usize) -> bool
 }
 
 // Whether a word is good where so many tags are left: a tag, or a node number.
+#[tactic(auto, unfolding(crate::specs::Walk::word_b))]
 fn is_good(w: &[u8], left: u64) -> bool
     ensures { result ≡ word_b left w.now }
 {
@@ -125,6 +133,7 @@ fn is_left(t: &[u8], tags: u64, kind: u64) -> bool
 }
 
 // Whether a row is that of an element.
+#[tactic(auto, unfolding(crate::specs::Walk::element_b))]
 pub fn is_element(t: &[u8]) -> bool
     ensures { result ≡ element_b (line t.now) }
 {

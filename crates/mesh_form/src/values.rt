@@ -63,6 +63,7 @@ pub fn nine_at(t: &[u8], at: usize) -> [u64; 9]
 }
 
 // How many nodes the elements of a type that is ours have.
+#[tactic(auto, unfolding(crate::specs::Values::size_of_type))]
 pub fn size_of(kind: u64) -> Option<usize>
     ensures size { size_number result ≡ size_of_type kind }
     ensures ours { IfSome result (λ n. 0 < n) }

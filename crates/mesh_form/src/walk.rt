@@ -11,6 +11,7 @@ use mesh_text::row::{first, from, over, rest};
 use mesh_text::word::{number, same, tail};
 
 // Before a count, where a format has been seen.
+#[tactic(auto, unfolding(crate::specs::Walk::meaning))]
 fn counting(seen: bool, kind: Kind) -> Part
     ensures { (t : List ℕ) → meaning t result ≡ cond seen (before_count (node_kind kind)) bad }
 {
@@ -21,6 +22,7 @@ fn counting(seen: bool, kind: Kind) -> Part
 }
 
 // Behind the mark at a place.
+#[tactic(auto, unfolding(crate::specs::Walk::opened, crate::specs::Walk::meaning))]
 fn opened(t: &[u8], at: usize, seen: bool) -> Part
     ensures { meaning t.now result ≡ opened_of seen (name_of (line (drop at t.now))) }
 {
@@ -38,6 +40,7 @@ fn opened(t: &[u8], at: usize, seen: bool) -> Part
 }
 
 // The row at a place, outside of sections.
+#[tactic(auto, unfolding(crate::specs::Walk::meaning, crate::specs::Walk::step))]
 fn at_mark(t: &[u8], at: usize, seen: bool) -> Part
     ensures { meaning t.now result ≡ step_of (outside seen) (line (drop at t.now)) }
 {
@@ -48,6 +51,7 @@ fn at_mark(t: &[u8], at: usize, seen: bool) -> Part
 }
 
 // The row of a format.
+#[tactic(auto, unfolding(crate::specs::Walk::meaning, crate::specs::Walk::step))]
 fn at_format(t: &[u8], at: usize) -> Part
     ensures { meaning t.now result ≡ step_of before_format (line (drop at t.now)) }
 {
@@ -58,6 +62,7 @@ fn at_format(t: &[u8], at: usize) -> Part
 }
 
 // The row behind it.
+#[tactic(auto, unfolding(crate::specs::Walk::meaning, crate::specs::Walk::step))]
 fn at_format_end(t: &[u8], at: usize) -> Part
     ensures { meaning t.now result ≡ step_of behind_format (line (drop at t.now)) }
 {
@@ -68,6 +73,7 @@ fn at_format_end(t: &[u8], at: usize) -> Part
 }
 
 // The row of a count.
+#[tactic(auto, unfolding(crate::specs::Walk::meaning, crate::specs::Walk::step))]
 fn at_count(t: &[u8], at: usize, kind: Kind) -> Part
     ensures { meaning t.now result ≡ step_of (before_count (node_kind kind)) (line (drop at t.now)) }
 {
@@ -91,6 +97,7 @@ fn is_close(t: &[u8], kind: Kind) -> bool
 }
 
 // A row of nodes or of elements, n of which are left, or their end.
+#[tactic(auto, unfolding(crate::specs::Walk::step, crate::specs::Walk::meaning))]
 fn at_row(t: &[u8], at: usize, kind: Kind, n: u64) -> Part
     ensures { meaning t.now result ≡ step_of (within (node_kind kind) n) (line (drop at t.now)) }
 {
@@ -104,6 +111,7 @@ fn at_row(t: &[u8], at: usize, kind: Kind, n: u64) -> Part
 }
 
 // A row of a section that is passed over, whose mark stands at p.
+#[tactic(auto, unfolding(crate::specs::Walk::meaning, crate::specs::Walk::step))]
 fn at_passed(t: &[u8], at: usize, seen: bool, p: usize) -> Part
     ensures { meaning t.now result ≡ step_of (passing seen (name_of (line (drop p t.now)))) (line (drop at t.now)) }
 {
@@ -115,6 +123,7 @@ fn at_passed(t: &[u8], at: usize, seen: bool, p: usize) -> Part
 }
 
 // Where the walk stands behind the row at a place.
+#[tactic(auto, unfolding(crate::specs::Walk::meaning, crate::specs::Walk::step))]
 pub(crate) fn step(t: &[u8], at: usize, part: Part) -> Part
     ensures { meaning t.now result ≡ step_of (meaning t.now part) (line (drop at t.now)) }
 {
@@ -130,6 +139,7 @@ pub(crate) fn step(t: &[u8], at: usize, part: Part) -> Part
 }
 
 // The kind of the next row within a section.
+#[tactic(auto, unfolding(crate::specs::Walk::kind_of))]
 fn row_kind(kind: Kind, n: u64) -> Option<Kind>
     ensures { row_number result ≡ kind_of (within (node_kind kind) n) }
 {
@@ -140,6 +150,7 @@ fn row_kind(kind: Kind, n: u64) -> Option<Kind>
 }
 
 // The kind of the next row, where it is of nodes or elements.
+#[tactic(auto, unfolding(crate::specs::Walk::kind_of, crate::specs::Walk::meaning))]
 pub(crate) fn kind_of(part: Part) -> Option<Kind>
     ensures { (t : List ℕ) → row_number result ≡ kind_of (meaning t part) }
 {
@@ -161,6 +172,7 @@ fn is_item(t: &[u8], item: Item) -> bool
 }
 
 // Whether a text may end here.
+#[tactic(auto, unfolding(crate::specs::Walk::done_b, crate::specs::Walk::meaning))]
 fn is_done(part: Part) -> bool
     ensures { (t : List ℕ) → result ≡ done_b (meaning t part) }
 {

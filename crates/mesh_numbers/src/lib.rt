@@ -13,6 +13,13 @@ ghost use Rattle.mesh_numbers.specs.Windows.{Swept, Doubles, Lacks};
 use crate::look::look;
 use crate::mark::mark;
 
+// A window of numbers that have flags: the first, and the first behind it.
+#[derive(Clone, Copy)]
+pub struct Window {
+    pub base: u64,
+    pub lim: u64,
+}
+
 // What a pass over a text has found: whether a number stands twice, or is not listed; and the least number above the window, or 2^32.
 // stays (1): `found` is no flag for `above`: specs/Windows `Marks` and `Looks` take both on over the whole pass, found or not
 #[derive(Clone, Copy)]

@@ -19,6 +19,7 @@ pub enum Class {
 }
 
 // Whether a byte is of a class.
+#[tactic(auto, unfolding(crate::specs::Rows::in_class))]
 fn is(class: Class, b: u8) -> bool
     ensures { result ≡ in_class class b }
 {

@@ -42,6 +42,7 @@ fn reads_to(w: &[u8], most: u64) -> u64
 }
 
 // Whether a word is digits.
+#[tactic(auto, unfolding(crate::specs::Tests::digits_b))]
 pub fn is_digits(w: &[u8]) -> bool
     ensures { result ≡ digits_b w.now }
 {
@@ -51,6 +52,7 @@ pub fn is_digits(w: &[u8]) -> bool
 
 // A whole number; 2^32 where it is none.
 // stays (1): `number_of` gives 2^32 to a word that is no number and to a number that is larger, and docs/GMSH.md's rules and the theorems read both so
+#[tactic(auto, unfolding(crate::specs::Tests::number_of))]
 pub fn number(w: &[u8]) -> u64
     ensures { result ≡ number_of w.now }
 {
@@ -61,6 +63,7 @@ pub fn number(w: &[u8]) -> u64
 }
 
 // A word without its sign.
+#[tactic(auto, unfolding(crate::specs::Tests::unsigned))]
 fn unsign(w: &[u8]) -> &[u8]
     ensures { result.now ≡ unsigned w.now }
 {
@@ -74,6 +77,7 @@ fn unsign(w: &[u8]) -> &[u8]
 }
 
 // Whether a word is a sign, or none, and digits.
+#[tactic(auto, unfolding(crate::specs::Tests::tag_b))]
 pub fn is_tag(w: &[u8]) -> bool
     ensures { result ≡ tag_b w.now }
 {
@@ -81,6 +85,7 @@ pub fn is_tag(w: &[u8]) -> bool
 }
 
 // Whether what is behind a number's digits and point is nothing or an exponent.
+#[tactic(auto, unfolding(crate::specs::Tests::exponent_b))]
 fn is_exponent(w: &[u8]) -> bool
     ensures { result ≡ exponent_b w.now }
 {
@@ -92,6 +97,7 @@ fn is_exponent(w: &[u8]) -> bool
 }
 
 // The same for what is behind a number's first d digits.
+#[tactic(auto, unfolding(crate::specs::Tests::mantissa_b))]
 fn is_mantissa(d: usize, r: &[u8]) -> bool
     ensures { result ≡ mantissa_b d r.now }
 {
@@ -108,6 +114,7 @@ fn is_mantissa(d: usize, r: &[u8]) -> bool
 }
 
 // Whether a word is a decimal number.
+#[tactic(auto, unfolding(crate::specs::Tests::number_b))]
 pub fn is_number(w: &[u8]) -> bool
     ensures { result ≡ number_b w.now }
 {
@@ -117,6 +124,7 @@ pub fn is_number(w: &[u8]) -> bool
 }
 
 // Whether what is behind digits is nothing, or a point and zeros.
+#[tactic(auto, unfolding(crate::specs::Tests::point_b))]
 fn is_point(p: &[u8]) -> bool
     ensures { result ≡ point_b p.now }
 {
@@ -128,6 +136,7 @@ fn is_point(p: &[u8]) -> bool
 }
 
 // Whether a word is a whole coordinate.
+#[tactic(auto, unfolding(crate::specs::Tests::whole_b))]
 pub fn is_whole(w: &[u8]) -> bool
     ensures { result ≡ whole_b w.now }
 {
@@ -138,6 +147,7 @@ pub fn is_whole(w: &[u8]) -> bool
 }
 
 // The first digits of a word behind its sign as a number, 2^32 - 1 where it is above that.
+#[tactic(auto, unfolding(crate::specs::Tests::size_of))]
 fn size(w: &[u8]) -> u64
     ensures { result ≡ min 4294967295 (size_of w.now) }
 {

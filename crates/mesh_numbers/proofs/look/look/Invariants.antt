@@ -9,4 +9,4 @@ use Rattle.mesh_numbers.proofs.look.look.Given as goal
 abbrev pub invariant-loop-item : goal.invariant-loop-item
 invariant-loop-item l =
     (l.item-iterator.t.now ≡ l.t)
-    × ((s : Pass) → Looks l.base l.lim l.flags l.p (gather wanted_by (items_from l.t l.item-iterator.c)) s → Looks l.base l.lim l.flags l.initial.p (gather wanted_by (items_in l.t)) s)
+    × ((s : Pass) → Looks l.w.base l.w.lim l.flags l.p (gather wanted_by (items_from l.t l.item-iterator.c)) s → Looks l.w.base l.w.lim l.flags l.initial.p (gather wanted_by (items_in l.t)) s)

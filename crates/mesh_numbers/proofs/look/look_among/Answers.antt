@@ -15,12 +15,12 @@ pub loop-n-preserved : goal.loop-n-preserved
 loop-n-preserved c =
     let l = c.loop-n in
     let a = c.args in
-    looks-more a.base a.lim a.flags.now a.p (record { found = l.found; above = l.above }) (record { found = l.found || c.lacks-missing.result; above = c.lesser-above.result })
+    looks-more a.w.base a.w.lim a.flags.now a.p (record { found = l.found; above = l.above }) (record { found = l.found || c.lacks-missing.result; above = c.lesser-above.result })
     a.names.now l.n-index (omega arith) l.invariant (ap (λ b. l.found || b) c.lacks-missing.ensures) c.lesser-above.ensures
 
 pub returns : goal.returns
 returns c =
     let l = c.loop-n in
     let a = c.args in
-    subst (λ ns. Looks a.base a.lim a.flags.now a.p ns (record { found = l.found; above = l.above }))
+    subst (λ ns. Looks a.w.base a.w.lim a.flags.now a.p ns (record { found = l.found; above = l.above }))
     (take_all l.n-index a.names.now (omega arith)) l.invariant

@@ -17,7 +17,7 @@ pub returns-in-Node : goal.returns-in-Node
 returns-in-Node c =
     let a = c.args in
     let row = line (drop a.item.at a.t.now) in
-    looks-nil a.base a.lim a.flags.now a.p _
+    looks-nil a.w.base a.w.lim a.flags.now a.p _
     (ap (λ k. gather wanted_by (items_of (kind_number k) row)) c.in-Node.is ∙ unwanted-row 1 row (λ e. absurd (omega arith)))
 
 pub slice_bounds-names-end : goal.slice_bounds-names-end
@@ -32,14 +32,14 @@ returns-in-None c =
     let a = c.args in
     let row = line (drop a.item.at a.t.now) in
     let size : 0 ≡ size_of_type (type_of row) = c.in-None.ensures.size ∙ ap size_of_type c.type_at.ensures in
-    looks-nil a.base a.lim a.flags.now a.p _ (wanted-row _ row (ap kind_number c.in-Element.is) ∙ wanted-size row 0 size)
+    looks-nil a.w.base a.w.lim a.flags.now a.p _ (wanted-row _ row (ap kind_number c.in-Element.is) ∙ wanted-size row 0 size)
 
 pub returns-in-Some : goal.returns-in-Some
 returns-in-Some c =
     let a = c.args in
     let row = line (drop a.item.at a.t.now) in
     let size : c.in-Some.size ≡ size_of_type (type_of row) = c.in-Some.ensures.size ∙ ap size_of_type c.type_at.ensures in
-    subst (λ l. Looks a.base a.lim a.flags.now a.p l c.look_among.result)
+    subst (λ l. Looks a.w.base a.w.lim a.flags.now a.p l c.look_among.result)
     (ap (take c.in-Some.size) c.nine_at-names.ensures
     ∙ sym (wanted-row _ row (ap kind_number c.in-Element.is) ∙ wanted-size row c.in-Some.size size))
     c.look_among.ensures

@@ -11,4 +11,4 @@ use Rattle.mesh_numbers.proofs.mark.mark.Given as goal
 abbrev pub invariant-loop-item : goal.invariant-loop-item
 invariant-loop-item l =
     (l.item-iterator.t.now ≡ l.t)
-    × ((s : Pass) (js : List ℕ) → Marks l.base l.lim l.flags l.p (gather node_number (items_from l.t l.item-iterator.c)) s js → Marks l.base l.lim l.initial.flags l.initial.p (gather node_number (items_in l.t)) s js)
+    × ((s : Pass) (js : List ℕ) → Marks l.w.base l.w.lim l.flags l.p (gather node_number (items_from l.t l.item-iterator.c)) s js → Marks l.w.base l.w.lim l.initial.flags l.initial.p (gather node_number (items_in l.t)) s js)

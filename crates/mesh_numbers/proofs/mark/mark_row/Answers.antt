@@ -14,7 +14,7 @@ pub returns-in-Element : goal.returns-in-Element
 returns-in-Element c =
     let a = c.args in
     let row = line (drop a.item.at a.t.now) in
-    marks-nil a.base a.lim a.flags.now a.p (gather node_number (items_of (kind_number a.item.kind) row))
+    marks-nil a.w.base a.w.lim a.flags.now a.p (gather node_number (items_of (kind_number a.item.kind) row))
     (ap (λ k. gather node_number (items_of (kind_number k) row)) c.in-Element.is ∙ other_row 2 row (λ e. absurd (omega arith)))
 
 pub returns-in-Node : goal.returns-in-Node
@@ -23,7 +23,7 @@ returns-in-Node c =
     let m = c.mark_one-again.ensures in
     let a = c.args in
     let row = line (drop a.item.at a.t.now) in
-    marks-one a.base a.lim a.flags.now a.p (gather node_number (items_of (kind_number a.item.kind) row)) n.result _ _
+    marks-one a.w.base a.w.lim a.flags.now a.p (gather node_number (items_of (kind_number a.item.kind) row)) n.result _ _
     (node_row _ row (ap kind_number c.in-Node.is) ∙ ap (λ x. x ∷ []) (sym n.ensures))
     (ap (λ b. a.p.found || b) m.0)
     c.lesser-above.ensures
