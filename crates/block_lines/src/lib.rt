@@ -83,10 +83,10 @@ fn steps(bytes: &[u8], from: usize, out: &mut [u8], start: usize) -> usize {
     let mut end = start;
     for _turn in 0..65536 {
         let step = step_at(bytes, at);
-        if step.next.over {
-            return write::word(out, end, b" / end\n");
+        match step.next {
+            Some(record) => end = found(out, end, record),
+            None => return write::word(out, end, b" / end\n"),
         }
-        end = found(out, end, step.next.found);
         at = step.at;
     }
     end

@@ -1,7 +1,6 @@
 // The calls on one element: `control`, `bounds`, `verdict`, `floor`. Each is asked what stands behind its name; none where that is no call.
 #![tactic(auto)]
 
-use control::Bounded;
 use floor::{Profile, verdict_by};
 use pieces::{element, integers, naturals, room_and_kind};
 use text::read::{byte, first_word, numbers};
@@ -38,13 +37,13 @@ fn whole(x: f64) -> i64 {
 // Calls `solver_bounds`, and writes the code and both bounds as whole numbers.
 fn bounds_answer(kind: u8, coords: &[i32], out: &mut [u8]) -> usize {
     match control::solver_bounds(kind, coords) {
-        Bounded::Both(b) => {
+        Ok(b) => {
             let end = write::word(out, 0, b"0");
             let after = integers(out, end, &[whole(b.lo), whole(b.hi)]);
             write::put(out, after, 10)
         }
-        Bounded::Code(c) => {
-            let end = write::natural(out, 0, c as u64);
+        Err(refusal) => {
+            let end = write::natural(out, 0, u64::from(refusal.number()));
             write::word(out, end, b" 0 0\n")
         }
     }
