@@ -6,7 +6,7 @@ use std::io;
 use std::io::{Print, Read};
 
 // What of the buffer is filled and not yet answered, and whether it is the end of a line that was too long.
-// stays (1): `long` is no sign that another field counts: a line may be too long wherever it stands in the buffer.
+// stays (1): long is no sign that from and have are missing, they hold either way
 #[derive(Clone, Copy)]
 struct State {
     from: usize,

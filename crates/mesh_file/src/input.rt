@@ -60,6 +60,7 @@ fn in_large<R: Read, P: Print>(input: &mut R, to: &P, first: &[u8], limit: u8) -
 
 // Reads the text, with so many rooms left: two, the small one first; one, the large one. The compiler takes no large array into a
 // function that calls itself, so the large room is on the stack only while it is used.
+// stays (1): rooms is a number, as it is the measure by which the recursion is proved to end
 #[tactic(none)]
 pub fn read_in<R: Read, P: Print>(
     input: &mut R,
