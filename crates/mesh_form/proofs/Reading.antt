@@ -4,7 +4,7 @@
 --   reads_on-is       : a row that is of neither, and what is read behind it
 -- Assumes nothing.
 use mathlib.Core.Path.{◌≡◌, refl, sym, ap, ◌∙◌}
-use mathlib.Core.Bool.{Bool, true, false, cond}
+use mathlib.Core.Bool.{true, false}
 use mathlib.Core.List.{List, ◌∷◌, ◌++◌}
 use Prim.Native.Nat.{ℕ, zero, suc, ◌≤◌, ◌<◌}
 use borrow.Author.Tests.{eqb-true, eqb-false}
@@ -13,12 +13,10 @@ use lib.Dec.{eqb}
 use lib.ListN.{length, drop, drop_of_length-le}
 use Rattle.mesh_text.proofs.Rows.{rows-nil, by-test}
 use Rattle.mesh_text.specs.Rows.{rows, line, RowAt, RowAfter}
-use Rattle.mesh_form.specs.declared.Kind.{Kind}
-use Rattle.mesh_form.specs.declared.Kind.TheVariants.{Node, Element}
 use Rattle.mesh_form.specs.declared.Part.{Part}
 use Rattle.mesh_form.specs.declared.Cursor.{Cursor}
 use Rattle.mesh_form.specs.Mesh.{Row}
-use Rattle.mesh_form.specs.Walk.{Found, kind_number, is_node, State, outside, before_format, behind_format, before_count, within, passing, bad, step, items_at, items, final, kind_of, items_of, items_from, meaning, Reads}
+use Rattle.mesh_form.specs.Walk.{Found, State, outside, before_format, behind_format, before_count, within, passing, bad, step, items_at, items, final, kind_of, items_of, items_from, meaning, Reads}
 
 pub items_at-is : (s : State) (r : Row) → items_at s r ≡ items_of (kind_of s) r
 unfolding items_at kind_of
@@ -99,22 +97,6 @@ reads_on-is t c f g m e a b =
       rest_final = a.rest_final ∙ b.rest_final;
       none_left = b.none_left;
     }
-
--- the kind of a row within a section
-pub kind-end : (k : Bool) (n : ℕ) → n ≡ 0 → 3 ≡ kind_of (within k n)
-unfolding kind_of
-kind-end k zero e = refl
-kind-end k (suc n) e = absurd (omega arith)
-
-pub kind_row : (k : Bool) (n : ℕ) → (n ≡ 0 → ⊥) → cond k 1 2 ≡ kind_of (within k n)
-unfolding kind_of
-kind_row k zero e = absurd (e refl)
-kind_row k (suc n) e = refl
-
--- the number of a kind
-pub number_is : (k : Kind) → kind_number k ≡ cond {A = ℕ} (is_node k) 1 2
-number_is Node = refl
-number_is Element = refl
 
 -- where it is no other row, it is one of nodes or elements, or none
 pub reads_two : (t : List ℕ) (c : Cursor) (f : Found) → (f.kind ≡ 3 → ⊥) → Reads 3 t c f → Reads 2 t c f

@@ -2,7 +2,7 @@
 --   node-is, element-is : the node and the element of a row
 --   wanted-is, wanted-none : the node numbers of a row of ours; none of another's
 --   first_word, second_word, third-word : words by their places
---   skip-on, skip-over  : one word less; a line that is over
+--   skip-on        : one word less
 --   padded n ws    == the numbers of the first n of ws, 2^32 for each that is missing
 --   padded-is      : the same as a list that is filled up and cut
 --   padded-step, padded-end : one number more; all of them
@@ -11,7 +11,7 @@
 --   nine-enough    : the nine numbers have room for them
 -- Assumes nothing.
 use mathlib.Core.Path.{◌≡◌, refl, sym, ap, ◌∙◌}
-use mathlib.Core.Bool.{true, cond, true≢false}
+use mathlib.Core.Bool.{cond}
 use mathlib.Core.List.{List, [], ◌∷◌, ◌++◌, map, append-nil}
 use Prim.Native.Nat.{ℕ, zero, suc, ◌+◌, ◌-◌, ◌≤◌, ◌<◌}
 use native.Mathlib.Numerals.{add-one}
@@ -20,7 +20,7 @@ use borrow.Author.Tests.{eqb-true}
 use lib.Dec.{eqb}
 use lib.ListN.{length, set, take, drop, replicate, length-take, length-append}
 use lib.Seq.{take_at, drop_at, take_all, append_snoc, take-suc-set, drop-nil, drop-drop, take-take}
-use Rattle.mesh_text.specs.Rows.{first, rest, is_nil, Pairs, no_pairs, pair}
+use Rattle.mesh_text.specs.Rows.{first, rest, Pairs, no_pairs, pair}
 use Rattle.mesh_text.specs.Tests.{number_of}
 use Rattle.mesh_text.proofs.Rows.{by-test}
 use Rattle.mesh_text.proofs.Grammar.{number-of}
@@ -46,10 +46,6 @@ pub skip-on : (n : ℕ) (r : Row) → 0 < n → drop n r ≡ drop (n - 1) (rest 
 skip-on zero r h = absurd (omega arith)
 skip-on (suc n) [] h = sym (drop-nil (suc n - 1))
 skip-on (suc n) (w ∷ r) h = let e : n ≡ suc n - 1 = omega arith in ap (λ k. drop k r) e
-
-pub skip-over : (n : ℕ) (r : Row) → is_nil r ≡ true → r ≡ drop n r
-skip-over n [] e = sym (drop-nil n)
-skip-over n (w ∷ r) e = absurd (true≢false (sym e))
 
 -- ---- numbers, filled up
 unfoldable pub padded : ℕ → Row → List ℕ

@@ -1,18 +1,16 @@
 -- The walk, case by case.
 --   opened-format, opened-nodes, opened-elements, opened-other : what a mark opens, by its name
---   within-row, within_end : a row of a section, and its end
 --   left-over, left-on, left-off : the words of an element behind its number, type and count
 -- Assumes nothing.
 use mathlib.Core.Path.{◌≡◌, refl, sym, ap, ◌∙◌}
 use mathlib.Core.Bool.{Bool, true, false, ◌&&◌, cond, true≢false}
 use mathlib.Core.List.{List, [], ◌∷◌}
-use Prim.Native.Nat.{ℕ, zero, suc, ◌+◌, ◌-◌, ◌≤◌, ◌<◌}
-use native.Mathlib.Omega.{arith}
+use Prim.Native.Nat.{ℕ, ◌+◌, ◌-◌}
 use lib.Dec.{eqb}
 use Rattle.mesh_text.specs.Rows.{first, rest, is_nil}
 use Rattle.mesh_text.specs.Tests.{same_b}
 use Rattle.mesh_form.specs.Mesh.{Row, format, nodes, elements}
-use Rattle.mesh_form.specs.Walk.{State, outside, before_format, before_count, within, passing, bad, opened, step, end_b, named, word_b, left_b, count_b}
+use Rattle.mesh_form.specs.Walk.{State, before_format, before_count, passing, bad, opened, word_b, left_b, count_b}
 
 module _ (s : Bool) (x : List ℕ) where
   then-elements : State
@@ -42,16 +40,6 @@ module _ (s : Bool) (x : List ℕ) where
       ap (λ b. cond b before_format then-nodes) e
       ∙ ap (λ b. cond b (cond s (before_count true) bad) then-elements) f
       ∙ ap (λ b. cond b (cond s (before_count false) bad) (passing s x)) g
-
-pub within-row : (k : Bool) (n : ℕ) (r : Row) → 0 < n → step (within k n) r ≡ within k (n - 1)
-unfolding step
-within-row k zero r h = absurd (omega arith)
-within-row k (suc n) r h = ap (within k) (omega arith)
-
-pub within_end : (k : Bool) (n : ℕ) (r : Row) → n ≤ 0 → step (within k n) r ≡ cond (end_b (named k) r) (outside true) bad
-unfolding step
-within_end k zero r h = refl
-within_end k (suc n) r h = absurd (omega arith)
 
 -- ---- the words of an element
 module _ (t n k : ℕ) where
