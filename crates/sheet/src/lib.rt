@@ -37,6 +37,7 @@ pub struct WrittenSheet {
 }
 
 // The control values of an element, a triangle's first.
+// stays (1): a sheet has no element of ten nodes, so that a match on `Kind` would have an arm here that is never taken.
 fn values(kind: u8, coords: &[i32]) -> [i64; 16]
     requires { ¬ NotStored kind × Inside (kind_of kind) coords.now }
     ensures { values_by (eqb kind 6) result ≡ control_values (kind_of kind) coords.now }

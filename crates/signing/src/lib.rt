@@ -85,6 +85,7 @@ pub fn to_version_2(block: &mut [u8]) -> Changed
 }
 
 // The steps of `to_version_1`.
+// stays (2): it differs from `newer` in what is checked and in the version; with the check as a closure it would be no shorter.
 fn older(block: &mut [u8]) -> Result<(), Refused>
     ensures { Older block.old (as_changed result) block.new }
 {
