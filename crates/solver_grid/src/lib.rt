@@ -2,6 +2,7 @@
 #![tactic(auto)]
 
 ghost use Rattle.std.specs.Prelude.{◌≡◌, ◌≤◌, true, false, length};
+ghost use Rattle.std.specs.List.{All};
 ghost use Rattle.element.specs.Refusals.{Coded};
 ghost use Rattle.faults.specs.Refusal.{code_of};
 ghost use Rattle.solver_grid.specs.Grid.{OnGrid, Stands, Tells, SomeOff, Over};
@@ -81,25 +82,14 @@ fn some_off(xs: &[f64]) -> bool
     false
 }
 
-// Writes the whole number of each float at the buffer's start.
-fn put_numbers(out: &mut [i32], xs: &[f64])
+// Writes what a function makes of each number at the buffer's start.
+fn put<A: Copy, B: Copy, F: Fn(A) -> B>(out: &mut [B], xs: &[A], convert: F)
     requires room { length xs.now ≤ length out.old }
-    requires on { ¬ SomeOff xs.now }
-    ensures { Filled OnGrid (length xs.now) xs.now out.old out.new }
+    requires ready { All (F.pre convert) xs.now }
+    ensures { Filled (F.post convert) (length xs.now) xs.now out.old out.new }
 {
     for k in 0..xs.len() {
-        out[k] = number(xs[k]);
-    }
-}
-
-// Writes the float of each whole number at the buffer's start.
-// stays (2): one function for this and `put_numbers` would take `number` as a closure with its `pre` at each item, and be longer than both.
-fn put_floats(out: &mut [f64], xs: &[i32])
-    requires { length xs.now ≤ length out.old }
-    ensures { Filled Over (length xs.now) xs.now out.old out.new }
-{
-    for k in 0..xs.len() {
-        out[k] = over(xs[k]);
+        out[k] = convert(xs[k]);
     }
 }
 
@@ -163,7 +153,7 @@ pub fn scale_coordinates(kind: u8, xs: &[f64], out: &mut [i32]) -> Scaled
     if let Err(refusal) = scale_code(kind, xs, out.len()) {
         return answer(refusal.number(), 0);
     }
-    put_numbers(out, xs);
+    put(out, xs, number);
     answer(0, xs.len())
 }
 
@@ -175,6 +165,6 @@ pub fn unscale_coordinates(kind: u8, xs: &[i32], out: &mut [f64]) -> Scaled
     if let Err(refusal) = unscale_code(kind, xs, out.len()) {
         return answer(refusal.number(), 0);
     }
-    put_floats(out, xs);
+    put(out, xs, over);
     answer(0, xs.len())
 }
