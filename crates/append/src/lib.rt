@@ -123,7 +123,6 @@ pub fn follow_code(low: u64, count: u32, room: usize, id: u32) -> Result<(), Ref
 }
 
 // Refusal 1, 2, 3, 4 or 21, then 10, 11 or 5, if any, for an element behind such a block.
-// stays (5): (a) id, kind, limit and coordinates are given one by one: the calls' clauses, `Appends` and `append_codes`, name them so.
 pub fn next_code(
     low: u64,
     count: u32,
@@ -191,6 +190,7 @@ fn append(
 }
 
 // A record, appended to the block in the first `used` bytes of a lent buffer.
+// stays (5): (a) id, kind, limit and coordinates are given one by one: `Appends`, the call's clause, and `append_codes` name them so.
 pub fn append_record(
     buffer: &mut [u8],
     used: u64,

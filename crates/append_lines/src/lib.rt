@@ -34,8 +34,8 @@ fn numbers_asked(line: &[u8]) -> Option<Asked<'_>> {
 // Calls `append_record`, and writes `code record used HEX` of the buffer afterwards.
 fn append_answer(bytes: &mut [u8], a: Asked<'_>, coords: &[i32], out: &mut [u8]) -> usize {
     let told = append_record(bytes, a.used, a.id, a.kind, a.limit, coords);
-    let code = write::natural(out, 0, told.code as u64);
-    let used = naturals(out, code, &[told.number as u64, told.used]);
+    let code = write::natural(out, 0, u64::from(told.code));
+    let used = naturals(out, code, &[u64::from(told.number), told.used]);
     buffer(out, used, bytes)
 }
 

@@ -15,7 +15,7 @@ use record_text::find::fault;
 use record_text::{Place, Test};
 
 // The code, the record number, the line and the word of the text, how many bytes are used, and how many records were appended.
-// stays (1): 01 gives the answer these fields, and a refusal zero in all but the first two (`append_text/specs/Calls: refusal`).
+// stays (1): 02 gives the answer these fields, and a refusal zero in all but the first two (`append_text/specs/Calls: refusal`).
 #[derive(Clone, Copy)]
 pub struct Texted {
     pub code: u8,

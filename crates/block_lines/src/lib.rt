@@ -12,24 +12,24 @@ use text::write;
 // Calls `check_block`, and writes `code record count`.
 fn check_answer(bytes: &[u8], out: &mut [u8]) -> usize {
     let told = check_block(bytes);
-    let code = write::natural(out, 0, told.code as u64);
-    let end = naturals(out, code, &[told.number as u64, told.count as u64]);
+    let code = write::natural(out, 0, u64::from(told.code));
+    let end = naturals(out, code, &[u64::from(told.number), u64::from(told.count)]);
     write::put(out, end, 10)
 }
 
 // What `fetch_record` answered: the code, the record number, the id, the kind, the level limit, the two bytes of the sign and the nine pairs.
 fn fetched(out: &mut [u8], at: usize, told: Fetched) -> usize {
-    let code = write::natural(out, at, told.code as u64);
+    let code = write::natural(out, at, u64::from(told.code));
     let head = naturals(
         out,
         code,
         &[
-            told.number as u64,
-            told.id as u64,
-            told.kind as u64,
-            told.limit as u64,
-            told.signed as u64,
-            told.level as u64,
+            u64::from(told.number),
+            u64::from(told.id),
+            u64::from(told.kind),
+            u64::from(told.limit),
+            u64::from(told.signed),
+            u64::from(told.level),
         ],
     );
     coordinates(out, head, &told.coords)
@@ -52,7 +52,7 @@ pub fn fetch_line(line: &[u8], out: &mut [u8]) -> Option<usize> {
 // Calls `start_block`, and writes `code used HEX` of the buffer afterwards.
 fn start_answer(bytes: &mut [u8], out: &mut [u8]) -> usize {
     let told = start_block(bytes);
-    let code = write::natural(out, 0, told.code as u64);
+    let code = write::natural(out, 0, u64::from(told.code));
     let used = naturals(out, code, &[told.used]);
     buffer(out, used, bytes)
 }
@@ -96,8 +96,8 @@ fn steps(bytes: &[u8], from: usize, out: &mut [u8], start: usize) -> usize {
 fn walk_answer(bytes: &[u8], out: &mut [u8]) -> usize {
     let begun = begin_at(bytes);
     let told = begun.checked;
-    let code = write::natural(out, 0, told.code as u64);
-    let head = naturals(out, code, &[told.number as u64]);
+    let code = write::natural(out, 0, u64::from(told.code));
+    let head = naturals(out, code, &[u64::from(told.number)]);
     steps(bytes, begun.at, out, head)
 }
 

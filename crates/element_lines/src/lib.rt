@@ -11,7 +11,7 @@ use verdict::{Judged, Word};
 fn control_answer(kind: u8, coords: &[i32], values: &mut [i64], out: &mut [u8]) -> usize {
     let told = control::control_values(kind, coords, values);
     let count = told.count;
-    let code = write::natural(out, 0, told.code as u64);
+    let code = write::natural(out, 0, u64::from(told.code));
     let head = naturals(out, code, &[count as u64]);
     let end = integers(out, head, &values[..count]);
     write::put(out, end, 10)
@@ -59,7 +59,7 @@ pub fn bounds_line(line: &[u8], out: &mut [u8]) -> Option<usize> {
 
 // The code, and the name of the verdict.
 fn named(out: &mut [u8], code: u8, word: Word) -> usize {
-    let end = write::natural(out, 0, code as u64);
+    let end = write::natural(out, 0, u64::from(code));
     let space = write::put(out, end, 32);
     lines::name(out, space, word)
 }
@@ -70,10 +70,10 @@ fn judged(told: Judged, out: &mut [u8]) -> usize {
     let point = naturals(
         out,
         head,
-        &[told.level as u64, told.i as u64, told.j as u64],
+        &[u64::from(told.level), u64::from(told.i), u64::from(told.j)],
     );
     let shown = integers(out, point, &[told.value]);
-    let end = naturals(out, shown, &[told.cells as u64]);
+    let end = naturals(out, shown, &[u64::from(told.cells)]);
     write::put(out, end, 10)
 }
 

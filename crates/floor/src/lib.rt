@@ -1,4 +1,4 @@
-// The call `floor_verdict` (02, Ask 3): a point of a triangle is bad where 100·J ≤ typeof.p.S, S the Jacobian of the straight-sided triangle. And
+// The call `floor_verdict` (02, Ask 3): a point of a triangle is bad where 100·J ≤ p·S, S the Jacobian of the straight-sided triangle. And
 // the profiles that elements are judged by.
 #![tactic(auto)]
 

@@ -25,7 +25,7 @@ fn middles(out: &mut [u8], from: usize, m01: Moved, m12: Moved, m02: Moved) -> u
 // Calls `straighten`, and writes the code, the coordinates and what became of the middle nodes.
 fn straighten_answer(kind: u8, limit: u8, coords: &[i32], out: &mut [u8]) -> usize {
     let told = straighten(kind, limit, coords);
-    let code = write::natural(out, 0, told.code as u64);
+    let code = write::natural(out, 0, u64::from(told.code));
     let at = coordinates(out, code, &told.coords);
     let end = middles(out, at, told.m01, told.m12, told.m02);
     write::put(out, end, 10)
@@ -41,8 +41,8 @@ pub fn straighten_line(line: &[u8], out: &mut [u8]) -> Option<usize> {
 // Calls `straighten_record`, and writes its answer and the block afterwards.
 fn mend_answer(bytes: &mut [u8], k: u32, out: &mut [u8]) -> usize {
     let told = straighten_record(bytes, k);
-    let code = write::natural(out, 0, told.code as u64);
-    let at = naturals(out, code, &[told.number as u64]);
+    let code = write::natural(out, 0, u64::from(told.code));
+    let at = naturals(out, code, &[u64::from(told.number)]);
     let end = middles(out, at, told.m01, told.m12, told.m02);
     buffer(out, end, bytes)
 }

@@ -16,7 +16,7 @@ use record::Record;
 use straighten::{Moved, Straightened, choose, refused, set, told};
 
 // The code, the record number, and what became of the middle nodes.
-// stays (1): 01 gives the answer these fields, and a refusal zero in all but the first two (`mending/specs/Calls: answer_of`).
+// stays (1): 02 gives the answer these fields, and a refusal zero in all but the first two (`mending/specs/Calls: answer_of`).
 #[derive(Clone, Copy)]
 pub struct Mended {
     pub code: u8,

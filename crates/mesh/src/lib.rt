@@ -13,7 +13,7 @@ use block::{Refused, check};
 use faults::refusal::Refusal;
 
 // The code, the record number, how many bytes are used, how many elements were appended, and how many were passed over.
-// stays (1): 01 gives the answer these fields, and a refusal zero in all but the first two (`mesh/specs/Calls: refusal`).
+// stays (1): 02 gives the answer these fields, and a refusal zero in all but the first two (`mesh/specs/Calls: refusal`).
 #[derive(Clone, Copy)]
 pub struct Meshed {
     pub code: u8,

@@ -9,14 +9,14 @@ use text::write;
 // Calls `append_mesh`, and writes `code record used appended passed HEX` of the buffer afterwards.
 fn mesh_answer(text: &[u8], limit: u8, bytes: &mut [u8], used: u64, out: &mut [u8]) -> usize {
     let told = append_mesh(text, limit, bytes, used);
-    let code = write::natural(out, 0, told.code as u64);
+    let code = write::natural(out, 0, u64::from(told.code));
     let end = naturals(
         out,
         code,
         &[
-            told.number as u64,
+            u64::from(told.number),
             told.used,
-            told.appended as u64,
+            u64::from(told.appended),
             told.passed,
         ],
     );

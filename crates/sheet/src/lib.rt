@@ -20,7 +20,7 @@ use text::write::word;
 use verdict::is_valid;
 
 // The code, and the record number.
-// stays (1): 01 gives the answer these fields, and a refusal zero in all but the first two (`sheet/specs/Calls: checked`).
+// stays (1): 02 gives the answer these fields, and a refusal zero in all but the first two (`sheet/specs/Calls: checked`).
 #[derive(Clone, Copy)]
 pub struct CheckedSheet {
     pub code: u8,
@@ -28,7 +28,7 @@ pub struct CheckedSheet {
 }
 
 // The code, the record number, and the number of bytes at the buffer's start.
-// stays (1): 01 gives the answer these fields, and a refusal zero in all but the first two (`sheet/specs/Calls: written`).
+// stays (1): 02 gives the answer these fields, and a refusal zero in all but the first two (`sheet/specs/Calls: written`).
 #[derive(Clone, Copy)]
 pub struct WrittenSheet {
     pub code: u8,

@@ -11,7 +11,7 @@ use text::write;
 fn sheet_answer(kind: u8, limit: u8, coords: &[i32], bytes: &mut [u8], out: &mut [u8]) -> usize {
     let told = write_sheet(kind, limit, coords, bytes);
     let length = told.length;
-    let code = write::natural(out, 0, told.code as u64);
+    let code = write::natural(out, 0, u64::from(told.code));
     let end = naturals(out, code, &[length as u64]);
     buffer(out, end, &bytes[..length])
 }
@@ -35,7 +35,7 @@ pub fn sheet_line(line: &[u8], out: &mut [u8]) -> Option<usize> {
 // Calls `check_sheet`, and writes the code.
 fn checked(kind: u8, limit: u8, coords: &[i32], sheet: &[u8], out: &mut [u8]) -> usize {
     let told = check_sheet(kind, limit, coords, sheet);
-    let end = write::natural(out, 0, told.code as u64);
+    let end = write::natural(out, 0, u64::from(told.code));
     write::put(out, end, 10)
 }
 

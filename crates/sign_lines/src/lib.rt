@@ -8,8 +8,8 @@ use text::write;
 
 // `code record HEX` of the block afterwards.
 fn changed(bytes: &[u8], told: Changed, out: &mut [u8]) -> usize {
-    let code = write::natural(out, 0, told.code as u64);
-    let end = naturals(out, code, &[told.number as u64]);
+    let code = write::natural(out, 0, u64::from(told.code));
+    let end = naturals(out, code, &[u64::from(told.number)]);
     buffer(out, end, bytes)
 }
 

@@ -13,7 +13,7 @@ use faults::refusal::Refusal;
 use signs::{judge, limit_of, sign_of};
 
 // The code, and the record number.
-// stays (1): 01 gives the answer these fields, and a refusal zero in all but the first two (`signing/specs/Calls: NotChanged`).
+// stays (1): 02 gives the answer these fields, and a refusal zero in all but the first two (`signing/specs/Calls: NotChanged`).
 #[derive(Clone, Copy)]
 pub struct Changed {
     pub code: u8,

@@ -21,7 +21,7 @@ use faults::refusal::Refusal;
 use faults::stored;
 
 // The code, the record number, and the number of places that are filled at the buffer's start.
-// stays (1): 01 gives the answer these fields (`solver_grid/specs/Calls: scaled`, `solver_grid/proofs/Outcomes: scale-unique`).
+// stays (1): 02 gives the answer these fields (`solver_grid/specs/Calls: scaled`, `solver_grid/proofs/Outcomes: scale-unique`).
 #[derive(Clone, Copy)]
 pub struct Scaled {
     pub code: u8,

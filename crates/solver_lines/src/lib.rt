@@ -13,7 +13,7 @@ mod bits;
 fn scale_answer(kind: u8, xs: &[f64], places: &mut [i32], out: &mut [u8]) -> usize {
     let told = scale_coordinates(kind, xs, places);
     let count = told.count;
-    let code = write::natural(out, 0, told.code as u64);
+    let code = write::natural(out, 0, u64::from(told.code));
     let head = naturals(out, code, &[count as u64]);
     let end = coordinates(out, head, &places[..count]);
     write::put(out, end, 10)
@@ -32,7 +32,7 @@ pub fn scale_line(line: &[u8], out: &mut [u8]) -> Option<usize> {
 fn unscale_answer(kind: u8, xs: &[i32], places: &mut [f64], out: &mut [u8]) -> usize {
     let told = unscale_coordinates(kind, xs, places);
     let count = told.count;
-    let code = write::natural(out, 0, told.code as u64);
+    let code = write::natural(out, 0, u64::from(told.code));
     let head = naturals(out, code, &[count as u64]);
     let end = spaced(out, head, &places[..count], pattern);
     write::put(out, end, 10)

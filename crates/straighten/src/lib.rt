@@ -25,7 +25,7 @@ pub struct Moved {
 }
 
 // The code, the record number, the new coordinates, and what became of the middle nodes.
-// stays (1): 01 gives the answer these fields, and a refusal zero in all but the first two (`straighten/specs/Calls: refusal`).
+// stays (1): 02 gives the answer these fields, and a refusal zero in all but the first two (`straighten/specs/Calls: refusal`).
 #[derive(Clone, Copy)]
 pub struct Straightened {
     pub code: u8,

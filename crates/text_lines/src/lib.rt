@@ -8,16 +8,16 @@ use text::write;
 // Calls `append_text`, and writes `code record line word used appended HEX` of the buffer afterwards.
 fn text_answer(text: &[u8], bytes: &mut [u8], used: u64, out: &mut [u8]) -> usize {
     let told = append_text(text, bytes, used);
-    let code = write::natural(out, 0, told.code as u64);
+    let code = write::natural(out, 0, u64::from(told.code));
     let end = naturals(
         out,
         code,
         &[
-            told.number as u64,
+            u64::from(told.number),
             told.line,
             told.word,
             told.used,
-            told.appended as u64,
+            u64::from(told.appended),
         ],
     );
     buffer(out, end, bytes)
