@@ -102,7 +102,7 @@ fn walk_answer(bytes: &[u8], out: &mut [u8]) -> usize {
 }
 
 // A call on one block, which is the only word of the line.
-fn block_line<F: Fn(&mut [u8], &mut [u8]) -> usize>(
+fn on_block<F: Fn(&mut [u8], &mut [u8]) -> usize>(
     line: &[u8],
     out: &mut [u8],
     answer: F,
@@ -114,17 +114,20 @@ fn block_line<F: Fn(&mut [u8], &mut [u8]) -> usize>(
     Some(answer(&mut bytes[..n], out))
 }
 
-// `check HEX`: `code record count`.
-pub fn check_line(line: &[u8], out: &mut [u8]) -> Option<usize> {
-    block_line(line, out, |bytes, answer| check_answer(bytes, answer))
+// A call on one block.
+#[derive(Clone, Copy)]
+pub enum Call {
+    Check,
+    Walk,
+    Start,
 }
 
-// `walk HEX`: `code record`, and each record as `fetch` writes it.
-pub fn walk_line(line: &[u8], out: &mut [u8]) -> Option<usize> {
-    block_line(line, out, |bytes, answer| walk_answer(bytes, answer))
-}
-
-// `start HEX`: `code used HEX` of the buffer afterwards.
-pub fn start_line(line: &[u8], out: &mut [u8]) -> Option<usize> {
-    block_line(line, out, start_answer)
+// `check HEX`: `code record count`. `walk HEX`: `code record`, and each record as `fetch` writes it. `start HEX`: `code used HEX` of the
+// buffer afterwards.
+pub fn block_line(call: Call, line: &[u8], out: &mut [u8]) -> Option<usize> {
+    match call {
+        Call::Check => on_block(line, out, |bytes, answer| check_answer(bytes, answer)),
+        Call::Walk => on_block(line, out, |bytes, answer| walk_answer(bytes, answer)),
+        Call::Start => on_block(line, out, start_answer),
+    }
 }

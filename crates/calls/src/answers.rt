@@ -1,6 +1,6 @@
 // Which call a line is.
 use append_lines::append_line;
-use block_lines::{check_line, fetch_line, start_line, walk_line};
+use block_lines::{Call, block_line, fetch_line};
 use element_lines::{bounds_line, control_line, floor_line, verdict_line};
 use list_lines::list_line;
 use mend_lines::{mend_line, straighten_line};
@@ -25,9 +25,9 @@ fn call(line: &[u8], out: &mut [u8]) -> Option<usize> {
         b"straighten" => straighten_line(asked, out),
         b"scale" => scale_line(asked, out),
         b"unscale" => unscale_line(asked, out),
-        b"check" => check_line(asked, out),
-        b"walk" => walk_line(asked, out),
-        b"start" => start_line(asked, out),
+        b"check" => block_line(Call::Check, asked, out),
+        b"walk" => block_line(Call::Walk, asked, out),
+        b"start" => block_line(Call::Start, asked, out),
         b"fetch" => fetch_line(asked, out),
         b"append" => append_line(asked, out),
         b"mesh" => mesh_line(asked, out),
