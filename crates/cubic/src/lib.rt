@@ -13,7 +13,7 @@ ghost use Rattle.element.specs.Origin.{from_first, Inside};
 ghost use Rattle.points.specs.Points.{Ten};
 ghost use Rattle.cubic.specs.Points as spec;
 
-use points::{Net, coord, coordinates, less, pick};
+use points::{across, coord, coordinates, less, pick};
 
 // Pascal's triangle.
 const PASCAL: [[u8; 5]; 5] = [
@@ -151,9 +151,11 @@ fn points10(n: &[i64; 10]) -> [i64; 10]
     ]
 }
 
+// stays (5): (b) over a `Net` the compiler no longer knows the indices of the terms, and the values take five times the instructions.
 // The term of value (i, j, k) with these indices: 0 where they do not add up to i, j, k.
 fn term(
-    r: &Net,
+    x: &[i64; 10],
+    y: &[i64; 10],
     i: usize,
     j: usize,
     k: usize,
@@ -164,8 +166,10 @@ fn term(
     j2: usize,
     k2: usize,
 ) -> i64
-    requires { (i1 + j1 + k1 ≡ 2) × (i2 + j2 + k2 ≡ 2) }
-    ensures rule { result ≡ cubic.term10 (spec.grid r.now.x r.now.y) i j k i1 j1 k1 i2 j2 k2 }
+    requires first { Ten 786432 x.now }
+    requires second { Ten 786432 y.now }
+    requires places { (i1 + j1 + k1 ≡ 2) × (i2 + j2 + k2 ≡ 2) }
+    ensures rule { result ≡ cubic.term10 (spec.grid x.now y.now) i j k i1 j1 k1 i2 j2 k2 }
     ensures small { Within 712483534798848 result }
 {
     if i1 + i2 != i {
@@ -178,7 +182,9 @@ fn term(
         return 0;
     }
     let m = multinomial(i1, j1, k1) * multinomial(i2, j2, k2);
-    let d = r.across(
+    let d = across(
+        x,
+        y,
         spot(j1, k1),
         spot(j1 + 1, k1),
         spot(j2, k2),
@@ -188,17 +194,28 @@ fn term(
 }
 
 // All terms of value (i, j, k) with these i1, j1, k1.
-fn row(r: &Net, i: usize, j: usize, k: usize, i1: usize, j1: usize, k1: usize) -> i64
-    requires { i1 + j1 + k1 ≡ 2 }
-    ensures rule { result ≡ spec.row r.now.x r.now.y i j k i1 j1 k1 }
+fn row(
+    x: &[i64; 10],
+    y: &[i64; 10],
+    i: usize,
+    j: usize,
+    k: usize,
+    i1: usize,
+    j1: usize,
+    k1: usize,
+) -> i64
+    requires first { Ten 786432 x.now }
+    requires second { Ten 786432 y.now }
+    requires places { i1 + j1 + k1 ≡ 2 }
+    ensures rule { result ≡ spec.row x.now y.now i j k i1 j1 k1 }
     ensures small { Within 4274901208793088 result }
 {
-    let a = term(r, i, j, k, i1, j1, k1, 0, 0, 2);
-    let b = term(r, i, j, k, i1, j1, k1, 0, 1, 1);
-    let c = term(r, i, j, k, i1, j1, k1, 0, 2, 0);
-    let d = term(r, i, j, k, i1, j1, k1, 1, 0, 1);
-    let e = term(r, i, j, k, i1, j1, k1, 1, 1, 0);
-    let f = term(r, i, j, k, i1, j1, k1, 2, 0, 0);
+    let a = term(x, y, i, j, k, i1, j1, k1, 0, 0, 2);
+    let b = term(x, y, i, j, k, i1, j1, k1, 0, 1, 1);
+    let c = term(x, y, i, j, k, i1, j1, k1, 0, 2, 0);
+    let d = term(x, y, i, j, k, i1, j1, k1, 1, 0, 1);
+    let e = term(x, y, i, j, k, i1, j1, k1, 1, 1, 0);
+    let f = term(x, y, i, j, k, i1, j1, k1, 2, 0, 0);
     a + b + c + d + e + f
 }
 
@@ -212,27 +229,31 @@ fn weight(i: usize, j: usize, k: usize) -> i64
 }
 
 // The value (i, j, k), from the points along x and along y.
-fn value(r: &Net, i: usize, j: usize, k: usize) -> i64
-    requires { i + j + k ≡ 4 }
-    ensures { result ≡ cubic.value10 (spec.grid r.now.x r.now.y) i j k }
+fn value(x: &[i64; 10], y: &[i64; 10], i: usize, j: usize, k: usize) -> i64
+    requires first { Ten 786432 x.now }
+    requires second { Ten 786432 y.now }
+    requires places { i + j + k ≡ 4 }
+    ensures { result ≡ cubic.value10 (spec.grid x.now y.now) i j k }
 {
-    let a = row(r, i, j, k, 0, 0, 2);
-    let b = row(r, i, j, k, 0, 1, 1);
-    let c = row(r, i, j, k, 0, 2, 0);
-    let d = row(r, i, j, k, 1, 0, 1);
-    let e = row(r, i, j, k, 1, 1, 0);
-    let f = row(r, i, j, k, 2, 0, 0);
+    let a = row(x, y, i, j, k, 0, 0, 2);
+    let b = row(x, y, i, j, k, 0, 1, 1);
+    let c = row(x, y, i, j, k, 0, 2, 0);
+    let d = row(x, y, i, j, k, 1, 0, 1);
+    let e = row(x, y, i, j, k, 1, 1, 0);
+    let f = row(x, y, i, j, k, 2, 0, 0);
     weight(i, j, k) * (a + b + c + d + e + f)
 }
 
 // The fifteen values.
-fn combine(r: &Net) -> [i64; 15]
-    ensures { result ≡ spec.combine10 r.now.x r.now.y }
+fn combine(x: &[i64; 10], y: &[i64; 10]) -> [i64; 15]
+    requires first { Ten 786432 x.now }
+    requires second { Ten 786432 y.now }
+    ensures { result ≡ spec.combine10 x.now y.now }
 {
     let mut c = [0; 15];
     for n in 0..15 {
         let d = degrees(n);
-        c[n] = value(r, d[0], d[1], d[2]);
+        c[n] = value(x, y, d[0], d[1], d[2]);
     }
     c
 }
@@ -244,5 +265,5 @@ pub fn values(xs: &[i32]) -> [i64; 15]
 {
     let x = points10(&nodes(xs, 0));
     let y = points10(&nodes(xs, 1));
-    combine(&Net { x, y })
+    combine(&x, &y)
 }

@@ -126,6 +126,31 @@ pub fn pick(p: &[i64; 10], k: usize) -> i64
     0
 }
 
+// The difference from the point a to the point b, along one coordinate.
+pub fn step(p: &[i64; 10], a: usize, b: usize) -> i64
+    requires { spec.Ten 786432 p.now }
+    ensures { result ≡ spec.step p.now a b }
+{
+    pick(p, b) - pick(p, a)
+}
+
+// The determinant of two vectors, (a, b) and (c, d).
+pub fn det(a: i64, b: i64, c: i64, d: i64) -> i64
+    requires { Each 1572864 (a ∷ b ∷ c ∷ d ∷ []) }
+    ensures { result ≡ a *ℤ d -ℤ b *ℤ c }
+{
+    a * d - b * c
+}
+
+// The determinant of the differences from a to b and from c to d, of the points with the coordinates x and y.
+pub fn across(x: &[i64; 10], y: &[i64; 10], a: usize, b: usize, c: usize, d: usize) -> i64
+    requires first { spec.Ten 786432 x.now }
+    requires second { spec.Ten 786432 y.now }
+    ensures { result ≡ spec.across x.now y.now a b c d }
+{
+    det(step(x, a, b), step(y, a, b), step(x, c, d), step(y, c, d))
+}
+
 // A net of points of the plane, by their coordinates along x and along y, which are small.
 #[derive(Clone, Copy)]
 pub struct Net {
@@ -140,33 +165,20 @@ impl Net {
     pub fn step_x(&self, a: usize, b: usize) -> i64
         ensures { result ≡ spec.step self.now.x a b }
     {
-        pick(&self.x, b) - pick(&self.x, a)
+        step(&self.x, a, b)
     }
 
     // The same along y.
     pub fn step_y(&self, a: usize, b: usize) -> i64
         ensures { result ≡ spec.step self.now.y a b }
     {
-        pick(&self.y, b) - pick(&self.y, a)
+        step(&self.y, a, b)
     }
 
     // The determinant of the differences from a to b and from c to d.
     pub fn across(&self, a: usize, b: usize, c: usize, d: usize) -> i64
         ensures { result ≡ spec.across self.now.x self.now.y a b c d }
     {
-        det(
-            self.step_x(a, b),
-            self.step_y(a, b),
-            self.step_x(c, d),
-            self.step_y(c, d),
-        )
+        across(&self.x, &self.y, a, b, c, d)
     }
-}
-
-// The determinant of two vectors, (a, b) and (c, d).
-pub fn det(a: i64, b: i64, c: i64, d: i64) -> i64
-    requires { Each 1572864 (a ∷ b ∷ c ∷ d ∷ []) }
-    ensures { result ≡ a *ℤ d -ℤ b *ℤ c }
-{
-    a * d - b * c
 }

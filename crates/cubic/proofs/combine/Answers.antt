@@ -9,11 +9,11 @@ use Rattle.cubic.specs.Points.{value_of}
 use Rattle.cubic.proofs.Counts.{degrees-add}
 use Rattle.cubic.proofs.combine.Goals as goal
 
-pub value-requires : goal.value-requires
-value-requires c =
+pub value-requires-clause-places : goal.value-requires-clause-places
+value-requires-clause-places c =
     rw c.degrees-d.ensures (degrees-add c.loop-n.n (omega arith))
 
 pub loop-n-preserved : goal.loop-n-preserved
 loop-n-preserved c =
     fill_more c.loop-n.invariant (omega arith)
-    (to_z-of_z {w = w64} (sfits_of c.value.type_inv) ∙ c.value.ensures ∙ ap (value_of c.args.r.now.x c.args.r.now.y) c.degrees-d.ensures)
+    (to_z-of_z {w = w64} (sfits_of c.value.type_inv) ∙ c.value.ensures ∙ ap (value_of c.args.x.now c.args.y.now) c.degrees-d.ensures)

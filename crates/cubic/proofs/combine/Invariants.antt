@@ -7,4 +7,4 @@ use Rattle.cubic.specs.Points.{value_of}
 use Rattle.cubic.proofs.combine.Given as goal
 
 abbrev pub invariant-loop-n : goal.invariant-loop-n
-invariant-loop-n l = Filled 15 l.n (λ m. value_of l.r.x l.r.y (get_or degrees10 m [])) l.c
+invariant-loop-n l = Filled 15 l.n (λ m. value_of l.x l.y (get_or degrees10 m [])) l.c

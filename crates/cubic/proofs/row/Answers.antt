@@ -30,6 +30,6 @@ pub returns : goal.returns
 returns c =
     let a = c.args in
     let s = st (i-add (st (i-add (st (i-add (st (i-add (st (i-add (named (rd c.term-a.ensures.small tt) c.term-a.ensures.rule) (named (rd c.term-b.ensures.small tt) c.term-b.ensures.rule)) tt) (named (rd c.term-c.ensures.small tt) c.term-c.ensures.rule)) tt) (named (rd c.term-d.ensures.small tt) c.term-d.ensures.rule)) tt) (named (rd c.term-e.ensures.small tt) c.term-e.ensures.rule)) tt) (named (rd c.term-f.ensures.small tt) c.term-f.ensures.rule)) tt in record {
-      rule = s.same ∙ sym (six-sum (λ i2 j2 k2. term10 (grid a.r.now.x a.r.now.y) a.i a.j a.k a.i1 a.j1 a.k1 i2 j2 k2));
+      rule = s.same ∙ sym (six-sum (λ i2 j2 k2. term10 (grid a.x.now a.y.now) a.i a.j a.k a.i1 a.j1 a.k1 i2 j2 k2));
       small = seen s;
     }

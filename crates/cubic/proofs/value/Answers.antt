@@ -38,4 +38,4 @@ returns c =
     let a = c.args in
     let w = got c.weight.ensures (twelfth-is (multinomial a.i a.j a.k)).within tt in
     let s = st (i-add (st (i-add (st (i-add (st (i-add (st (i-add (named (rd c.row-a.ensures.small tt) c.row-a.ensures.rule) (named (rd c.row-b.ensures.small tt) c.row-b.ensures.rule)) tt) (named (rd c.row-c.ensures.small tt) c.row-c.ensures.rule)) tt) (named (rd c.row-d.ensures.small tt) c.row-d.ensures.rule)) tt) (named (rd c.row-e.ensures.small tt) c.row-e.ensures.rule)) tt) (named (rd c.row-f.ensures.small tt) c.row-f.ensures.rule)) tt in
-    (st (i-mul w s) tt).same ∙ sym (value-rows a.r.now.x a.r.now.y a.i a.j a.k)
+    (st (i-mul w s) tt).same ∙ sym (value-rows a.x.now a.y.now a.i a.j a.k)

@@ -13,12 +13,12 @@ pub points10-y-requires : goal.points10-y-requires
 points10-y-requires c =
     rw c.nodes-2.ensures (nodes-ten (inside-first c.requires) 1)
 
-pub invariant_of-combine-clause-along_x : goal.invariant_of-combine-clause-along_x
-invariant_of-combine-clause-along_x c =
+pub combine-requires-clause-first : goal.combine-requires-clause-first
+combine-requires-clause-first c =
     rw (c.points10-x.ensures, c.nodes.ensures) (points10-ten (nodes-ten (inside-first c.requires) 0))
 
-pub invariant_of-combine-clause-along_y : goal.invariant_of-combine-clause-along_y
-invariant_of-combine-clause-along_y c =
+pub combine-requires-clause-second : goal.combine-requires-clause-second
+combine-requires-clause-second c =
     rw (c.points10-y.ensures, c.nodes-2.ensures) (points10-ten (nodes-ten (inside-first c.requires) 1))
 
 pub returns : goal.returns
