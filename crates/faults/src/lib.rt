@@ -138,8 +138,19 @@ impl Kind {
         }
     }
 
-    // Refusal 3, 4 or 21, or none, of its coordinate list.
+    // Refusal 3, 4 or 21, or none, of its coordinate list. A triangle's kind stands in its call, so that no loop over its coordinates is
+    // left.
     pub fn list_code(self, coords: &[i32]) -> Result<(), Refusal>
+        ensures { Coded (element_codes (nodes_of self) coords.now no_more) (code_of result) }
+    {
+        match self {
+            Kind::Six => Kind::Six.sized_code(coords),
+            _ => self.sized_code(coords),
+        }
+    }
+
+    // The same, of any kind.
+    fn sized_code(self, coords: &[i32]) -> Result<(), Refusal>
         ensures { Coded (element_codes (nodes_of self) coords.now no_more) (code_of result) }
     {
         if coords.len() != 2 * self.nodes() {

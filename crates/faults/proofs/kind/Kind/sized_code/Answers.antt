@@ -1,7 +1,7 @@
--- `Kind::list_code` meets its contract: a list of the right length is looked at as the nodes of the kind.
+-- `Kind::sized_code` meets its contract: a list of the right length is looked at as the nodes of the kind.
 use Rattle.element.proofs.Refusals.{coded-past}
 use Rattle.faults.proofs.Meant.{meant-kind}
-use Rattle.faults.proofs.kind.Kind.list_code.Goals as goal
+use Rattle.faults.proofs.kind.Kind.sized_code.Goals as goal
 
 pub returns : goal.returns
 returns c =
