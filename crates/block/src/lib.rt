@@ -81,7 +81,8 @@ fn header_code(bytes: &[u8]) -> Result<(), Refusal>
     if 800 < count {
         return Err(Refusal::Size);
     }
-    if bytes.len() != 9 + 80 * (count as usize) {
+    let size = 9 + 80 * count;
+    if bytes.len() != size as usize {
         return Err(Refusal::Size);
     }
     Ok(())
@@ -188,7 +189,7 @@ pub fn record_at(bytes: &[u8], k: u32) -> Record
 }
 
 // A record with the code and the record number of an answer.
-fn coded(code: u8, number: u32, r: Record) -> Fetched
+pub fn coded(code: u8, number: u32, r: Record) -> Fetched
     ensures { result ≡ fetched code number r }
 {
     let coords = r.coords;

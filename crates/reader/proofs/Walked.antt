@@ -7,7 +7,7 @@
 --   refused-ends  : the step of a reader of a refused block is the end
 --   reader-steps  : over a block the steps give record 0, 1, 2, ..
 --   reader-ends   : and then the end, and the end again
---   step-fetches  : each step gives what a fetch gives
+--   step-fetches  : each step gives the record that a fetch answers, with code 0
 -- Assumes nothing.
 use Rattle.std.specs.Prelude.{Option, Some, None}
 use Rattle.std.proofs.lemmas.Option.{none-some, same_Some}
@@ -29,14 +29,13 @@ use Rattle.block.specs.declared.Checked.{Checked}
 use Rattle.block.specs.declared.Fetched.{Fetched}
 use Rattle.block.specs.Block.{place, record_of, Holds}
 use Rattle.block.specs.Faults.{block_codes, fetch_codes}
-use Rattle.block.specs.Calls.{Checks, Fetches}
+use Rattle.block.specs.Calls.{Checks, fetched, Fetches}
 use Rattle.block.proofs.Header.{header-size}
 use Rattle.block.proofs.Walk.{block-some, accepted-header}
 use Rattle.block.proofs.Answers.{checks-unique, fetch-beyond}
 use Rattle.block.proofs.Blocks.{block-length, held-record}
 use Rattle.block.proofs.Demands.{fetched-record}
 use Rattle.reader.specs.declared.Found.{Found}
-use Rattle.reader.specs.Runs.{fetch_of}
 use Rattle.reader.specs.Steps.{over_at, found_at, step_at, Steps, NoWalk, Begins, Opens}
 
 -- ---- a step
@@ -112,6 +111,6 @@ module _ {v : ℕ} {l : List ℕ} {rs : List Record} (h : Holds v l rs) where
   pub reader-ends : step_at l (place (length rs)) ≡ over_at (place (length rs))
   reader-ends = step-over l (place (length rs)) (omega (arith, block-length h))
 
-  pub step-fetches : (k : ℕ) → k < length rs → (r : Fetched) → Fetches l k r → r ≡ fetch_of (step_at l (place k)).next
-  step-fetches k i r f =
-      fetched-record h k i r f ∙ ap fetch_of (sym (ap (λ (f : Found). f.next) (reader-steps k i)))
+  pub step-fetches : (k : ℕ) → k < length rs → (r : Fetched) → Fetches l k r
+      → ((step_at l (place k)).next ≡ Some (record_of rs k)) × (r ≡ fetched 0 0 (record_of rs k))
+  step-fetches k i r f = (ap (λ (f : Found). f.next) (reader-steps k i), fetched-record h k i r f)

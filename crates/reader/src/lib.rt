@@ -2,13 +2,16 @@
 #![tactic(auto)]
 
 ghost use Rattle.std.specs.Prelude.{◌≡◌};
+ghost use Rattle.element.specs.Refusals.{Accepted};
+ghost use Rattle.block.specs.Block.{place};
+ghost use Rattle.block.specs.Faults.{block_codes};
 ghost use Rattle.block.specs.Calls.{as_fetched, Fetches};
 ghost use Rattle.reader.specs.Steps.{step_at, Opens};
 ghost use Rattle.reader.specs.Runs.{OpensReader, StepsReader};
 
-use block::{Checked, Fetched, Refused, answer, check, check_block};
+use block::{Checked, Fetched, Refused, answer, check_block, coded};
 use faults::refusal::Refusal;
-use record::{Record, read_record};
+use record::{BLANK, Record, read_record};
 
 // The bytes of a block, and where the next record begins.
 #[derive(Clone, Copy)]
@@ -102,12 +105,12 @@ pub fn step_reader<'a>(r: Reader<'a>) -> Stepped<'a>
     }
 }
 
-// Record k, by steps from the first record on.
-fn fetch_by_steps(bytes: &[u8], k: u32) -> Result<Record, Refused>
+// Record k of a block, by steps from the first record on, which begins at a place.
+fn fetch_by_steps(bytes: &[u8], first: usize, k: u32) -> Result<Record, Refused>
+    requires { Accepted (block_codes bytes.now) × (first ≡ place 0) }
     ensures { Fetches bytes.now k (as_fetched result) }
 {
-    check(bytes)?;
-    let mut at = 9;
+    let mut at = first;
     for j in 0..k {
         let f = step_at(bytes, at);
         let Some(_) = f.next else {
@@ -126,5 +129,10 @@ fn fetch_by_steps(bytes: &[u8], k: u32) -> Result<Record, Refused>
 pub fn read_by_steps(bytes: &[u8], k: u32) -> Fetched
     ensures { Fetches bytes.now k result }
 {
-    answer(fetch_by_steps(bytes, k))
+    let b = begin_at(bytes);
+    let c = b.checked;
+    if c.code != 0 {
+        return coded(c.code, c.number, BLANK);
+    }
+    answer(fetch_by_steps(bytes, b.at, k))
 }
