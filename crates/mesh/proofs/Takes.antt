@@ -21,14 +21,14 @@ use Rattle.mesh_form.specs.Values.{id_of, type_of, size_of_type}
 use Rattle.mesh_elements.specs.Rows.{given_of}
 use Rattle.mesh_elements.proofs.Clip.{coords-clip}
 
-pub row-moves : (s : Tally) (b a : List ℕ) (t : Result Tally Refusal) (level : ℕ) (rs : List Row) (r : Row) (q : Given)
+pub row-moves : (p : ℕ) (s : Tally) (b a : List ℕ) (t : Result Tally Refusal) (level : ℕ) (rs : List Row) (r : Row) (q : Given)
     → q ≡ given_of level (clipped 4294967295) rs r
-    → Moves (q ∷ []) 0 s b t a
-    → Moves (given_of level value_of rs r ∷ []) 0 s b t a
-row-moves s b a t level rs r q e m =
+    → Moves (q ∷ []) p s b t a
+    → Moves (given_of level value_of rs r ∷ []) p s b t a
+row-moves p s b a t level rs r q e m =
     let n = size_of_type (type_of r) in
     let c = coords-clip 4294967295 rs r in
     let st = clips-stands (lit< tt) (kind_of n) c in
-    same-moves 0 s b a t (stands-codes s.low s.count s.room (id_of r) n level (clips-length c) (λ _ _. st)) refl
+    same-moves p s b a t (stands-codes s.low s.count s.room (id_of r) n level (clips-length c) (λ _ _. st)) refl
     (λ k. ap (new_record (id_of r) n level) (stands-coords s.low s.count s.room (id_of r) n level (clips-length c) (λ _ _. st) k))
-    (subst (λ g. Moves (g ∷ []) 0 s b t a) e m)
+    (subst (λ g. Moves (g ∷ []) p s b t a) e m)

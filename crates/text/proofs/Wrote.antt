@@ -1,12 +1,12 @@
 -- Pieces of text written one behind the other.
---   wrote_none : nothing
+--   wrote_none, wrote-short : nothing; a text with no room
 --   wrote-more : a piece behind a piece
---   wrote_as   : the same text by another name
+--   wrote_as, wrote-to : the same text, or the same place after it, by another name
 --   take_none  : a text's first no bytes
 -- Assumes nothing.
 use mathlib.Core.Path.{◌≡◌, refl, sym, ◌∙◌, ap, subst}
 use mathlib.Core.List.{List, [], ◌∷◌, ◌++◌}
-use Prim.Native.Nat.{ℕ, ◌+◌}
+use Prim.Native.Nat.{ℕ, ◌+◌, ◌<◌}
 use native.Mathlib.Nat as N
 use native.Mathlib.Omega.{arith}
 use lib.ListN.{length, take, drop, length-append, take-append-drop}
@@ -21,6 +21,9 @@ wrote_none o at =
       place = λ h. sym (N.add-zero at);
       content = λ h. sym (ap (λ (n : ℕ). take at o ++ drop n o) (N.add-zero at) ∙ take-append-drop at o);
     }
+
+pub wrote-short : (o : List ℕ) (at : ℕ) (t : List ℕ) → length o < at + length t → Wrote o at t o at
+wrote-short o at t h = record { size = refl; place = λ k. absurd (omega arith); content = λ k. absurd (omega arith) }
 
 pub wrote-more : {o t o' u o'' : List ℕ} {at p q : ℕ} → Wrote o at t o' p → Wrote o' p u o'' q → Wrote o at (t ++ u) o'' q
 wrote-more {o} {t} {o'} {u} {o''} {at} {p} {q} v w =
@@ -39,6 +42,9 @@ wrote-more {o} {t} {o'} {u} {o''} {at} {p} {q} v w =
 
 pub wrote_as : {o t u o' : List ℕ} {at p : ℕ} → Wrote o at t o' p → t ≡ u → Wrote o at u o' p
 wrote_as {o} {o' = o'} {at = at} {p = p} w e = subst (λ l. Wrote o at l o' p) e w
+
+pub wrote-to : {o t o' : List ℕ} {at p q : ℕ} → Wrote o at t o' p → p ≡ q → Wrote o at t o' q
+wrote-to {o} {t} {o'} {at} w e = subst (λ p. Wrote o at t o' p) e w
 
 pub take_none : (l : List ℕ) → take 0 l ≡ []
 take_none [] = refl

@@ -55,6 +55,6 @@ returns c =
     let n = a.size in
     let xs = c.coords_at-xs.result in
     let q : Given = record { id = c.id_at-id.result; kind = n; limit = a.m.limit; coords = take (2 * n) xs } in
-    row-moves a.s a.out.now _ c.take.result a.m.limit rs r q
+    row-moves 0 a.s a.out.now _ c.take.result a.m.limit rs r q
     (same-given c.id_at-id.ensures c.requires.sized
     (front-is (type_of r) n (coord_of (clipped 4294967295) rs r) xs c.requires.sized c.coords_at-xs.ensures)) c.take.ensures
